@@ -1,0 +1,20 @@
+-- The claims on the arithmetic, all proved: the value of the record of `specs/Claims.antt`.
+-- Idea: each field is a law of Laws/.
+-- Assumes nothing.
+use Rattle.trm_alu.specs.Claims.{Claims}
+use Rattle.trm_alu.proofs.Laws.Product.{mul-start, mul-end}
+use Rattle.trm_alu.proofs.Laws.Multiplier.{mul-step}
+use Rattle.trm_alu.proofs.Laws.Division.{div-step}
+use Rattle.trm_alu.proofs.Laws.Floor.{div-floor}
+use Rattle.trm_alu.proofs.Laws.Bench.{rows-hold}
+
+pub theorems : Claims
+theorems =
+    record {
+      mul-starts = mul-start;
+      mul-steps = mul-step;
+      mul-ends = mul-end;
+      div-steps = div-step;
+      div-floors = div-floor;
+      bench-holds = rows-hold;
+    }

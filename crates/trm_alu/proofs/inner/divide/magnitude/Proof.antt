@@ -1,0 +1,19 @@
+-- `magnitude` gives |B|.
+-- Idea: by the sign of B; 2^32 − B is n + 1 for B = −(n + 1), so −2^31 keeps its top bit.
+-- Assumes nothing.
+use borrow.Author.Needs.{needs}
+use Rattle.trm_alu.proofs.Laws.Division.{magnitude-plus, magnitude-minus}
+use Rattle.trm_alu.proofs.inner.divide.magnitude.Statement.{statement}
+use Rattle.trm_alu.proofs.inner.divide.magnitude.Tie as tie
+
+returns : tie.Need-returns
+returns c = magnitude-plus (c .before .args .b) (c .if1 .taken)
+
+sub-result : tie.Need-sub-result
+sub-result c = search needs
+
+returns-2 : tie.Need-returns-2
+returns-2 c = magnitude-minus (c .before .args .b) (c .if1 .left) (c .before .fits .b .fits)
+
+pub magnitude-spec : {M : Type 1} → statement M
+magnitude-spec = tie.close (tie.spec returns sub-result returns-2)

@@ -1,0 +1,18 @@
+-- `sign_flag` gives N of a 32-bit result.
+-- Idea: the quotient by 2^31 of a word is its bit 31.
+-- Assumes nothing.
+use borrow.Author.Needs.{needs}
+use Rattle.trm_alu.specs.Flags.{signFlag}
+use Rattle.trm_alu.proofs.Laws.Sums.{sign-is}
+use Rattle.trm_alu.proofs.inner.flags.sign_flag.Statement.{statement}
+use Rattle.trm_alu.proofs.inner.flags.sign_flag.Tie as tie
+
+cast-result : tie.Need-cast-result
+cast-result c = search needs
+
+returns : tie.Need-returns
+unfolding signFlag
+returns c = sign-is (c .args .result) (c .fits .result .fits)
+
+pub sign-flag-spec : {M : Type 1} → statement M
+sign-flag-spec = tie.close (tie.spec cast-result returns)

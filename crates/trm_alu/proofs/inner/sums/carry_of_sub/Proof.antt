@@ -1,0 +1,28 @@
+-- `carry_of_sub` gives C after SUB.
+-- Idea: the exact result plus 2^32 is below 2^32 where the exact result is negative.
+-- Assumes nothing.
+use mathlib.Core.Path.{ap, _∙_}
+use Prim.Native.Nat.{ℕ, _-_, _/_, _^_}
+use borrow.Author.Needs.{needs}
+use Rattle.trm_alu.specs.Results.{exactDifference}
+use Rattle.trm_alu.specs.Flags.{carryOfSub}
+use Rattle.trm_alu.proofs.Laws.Sums.{off-exact-difference, carry-is}
+use Rattle.trm_alu.proofs.inner.sums.carry_of_sub.Statement.{statement}
+use Rattle.trm_alu.proofs.inner.sums.carry_of_sub.Tie as tie
+
+exact-difference-requires : tie.Need-exact-difference-requires
+exact-difference-requires c κs = search needs
+
+sub-result : tie.Need-sub-result
+sub-result c = search needs
+
+returns : tie.Need-returns
+unfolding carryOfSub
+returns c =
+    let entry = c .before in
+    ap (λ (x : ℕ). 1 - x / 2 ^ 32) (c .exact-difference .ensures)
+    ∙ carry-is (exactDifference (entry .args .a) (entry .args .b)) _
+    (off-exact-difference (entry .args .a) (entry .args .b) (entry .fits .a .fits) (entry .fits .b .fits))
+
+pub carry-of-sub-spec : {M : Type 1} → statement M
+carry-of-sub-spec = tie.close (tie.spec exact-difference-requires sub-result returns)

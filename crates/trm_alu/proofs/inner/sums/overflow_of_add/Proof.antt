@@ -1,0 +1,31 @@
+-- `overflow_of_add` gives V after ADD.
+-- Idea: the exact result plus 2^32 is within 2^31 of 2^32 where the exact result fits.
+-- Assumes nothing.
+use mathlib.Core.Path.{ap, _∙_}
+use Prim.Native.Nat.{ℕ, _+_, _/_, _%_, _^_}
+use borrow.Author.Needs.{needs}
+use Rattle.trm_alu.specs.Results.{exactSum}
+use Rattle.trm_alu.specs.Flags.{overflowOfAdd}
+use Rattle.trm_alu.proofs.Laws.Sums.{off-sum, overflow-is}
+use Rattle.trm_alu.proofs.inner.sums.overflow_of_add.Statement.{statement}
+use Rattle.trm_alu.proofs.inner.sums.overflow_of_add.Tie as tie
+
+exact-sum-requires : tie.Need-exact-sum-requires
+exact-sum-requires c κs = search needs
+
+add-result : tie.Need-add-result
+add-result c = search needs
+
+add-result-2 : tie.Need-add-result-2
+add-result-2 c = search needs
+
+returns : tie.Need-returns
+unfolding overflowOfAdd
+returns c =
+    let entry = c .before in
+    ap (λ (x : ℕ). ((x + 2 ^ 31) / 2 ^ 32 + 1) % 2) (c .exact-sum .ensures)
+    ∙ overflow-is (exactSum (entry .args .a) (entry .args .b)) _
+    (off-sum (entry .args .a) (entry .args .b) (entry .fits .a .fits) (entry .fits .b .fits))
+
+pub overflow-of-add-spec : {M : Type 1} → statement M
+overflow-of-add-spec = tie.close (tie.spec exact-sum-requires add-result add-result-2 returns)

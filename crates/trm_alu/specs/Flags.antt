@@ -1,0 +1,58 @@
+-- N Z C V after operations 0-10, as numbers 0 or 1.
+-- Paper: "N and Z are taken from the 32-bit result of 0–10. Among 0–10, C and V change only here: after ADD and SUB, C is 1
+-- when the exact signed result is negative and V is 1 when it does not fit 32 bits; after ROR, C is bit 0 of the result." Assumes nothing.
+--   carryOfAdd, carryOfSub         C after ADD, after SUB
+--   overflowOfAdd, overflowOfSub   V after ADD, after SUB
+--   flagsAfter op a b r c v        all four, r being the result, c and v those before
+use Prim.Native.Nat.{ℕ, _%_, _^_}
+use mathlib.Core.Bool.{Bool, true, false, cond}
+use lib.Dec.{leb, eqb}
+use lib.IntN.{ℤ, pos, negsuc}
+use Rattle.trm_alu.specs.declared.inner.flags.Flags.{Flags}
+use Rattle.trm_alu.specs.Word.{flag}
+use Rattle.trm_alu.specs.Results.{exactSum, exactDifference, resultOf}
+
+unfoldable pub negative : ℤ → Bool
+negative (pos n) = false
+negative (negsuc n) = true
+
+-- below −2^31, or 2^31 and above
+unfoldable pub tooWide : ℤ → Bool
+tooWide (pos n) = leb (2 ^ 31) n
+tooWide (negsuc n) = leb (2 ^ 31) n
+
+unfoldable pub carryOfAdd : ℕ → ℕ → ℕ
+carryOfAdd a b = flag (negative (exactSum a b))
+
+unfoldable pub carryOfSub : ℕ → ℕ → ℕ
+carryOfSub a b = flag (negative (exactDifference a b))
+
+unfoldable pub overflowOfAdd : ℕ → ℕ → ℕ
+overflowOfAdd a b = flag (tooWide (exactSum a b))
+
+unfoldable pub overflowOfSub : ℕ → ℕ → ℕ
+overflowOfSub a b = flag (tooWide (exactDifference a b))
+
+-- N: the sign of a 32-bit result
+unfoldable pub signFlag : ℕ → ℕ
+signFlag r = flag (leb (2 ^ 31) r)
+
+-- Z
+unfoldable pub zeroFlag : ℕ → ℕ
+zeroFlag r = flag (eqb r 0)
+
+-- 2 is ADD, 3 is SUB, 10 is ROR
+unfoldable pub carryAfter : ℕ → ℕ → ℕ → ℕ → ℕ → ℕ
+carryAfter op a b r c =
+    cond (eqb op 2) (carryOfAdd a b) (cond (eqb op 3) (carryOfSub a b) (cond (eqb op 10) (r % 2) c))
+
+unfoldable pub overflowAfter : ℕ → ℕ → ℕ → ℕ → ℕ
+overflowAfter op a b v = cond (eqb op 2) (overflowOfAdd a b) (cond (eqb op 3) (overflowOfSub a b) v)
+
+unfoldable pub flagsAfter : ℕ → ℕ → ℕ → ℕ → ℕ → ℕ → Flags
+flagsAfter op a b r c v =
+    record { n = signFlag r; z = zeroFlag r; c = carryAfter op a b r c; v = overflowAfter op a b v }
+
+-- the flags of operation op: those of its own result
+unfoldable pub flagsOf : ℕ → ℕ → ℕ → ℕ → ℕ → Flags
+flagsOf op a b c v = flagsAfter op a b (resultOf op a b) c v

@@ -1,0 +1,129 @@
+// The divider: 32 steps of shift and subtract on the dividend's magnitude, then the sign; and its closed form.
+// Paper: "With t = floor(|B|/2^(32-k)), the divider holds remainder t mod A and quotient register ..";
+// "Signed dividend negated, divided and corrected around zero and at -2^31". A step does not see B.
+ghost use mathlib.Core.Path.{_≡_};
+ghost use Prim.Native.Nat.{_<_, _≤_};
+ghost use lib.IntN.{natAbs};
+ghost use Rattle.trm_alu.specs.Word.{signed};
+ghost use Rattle.trm_alu.specs.Divide.{divRem, divQuot, dividerAt, divStep, divided};
+
+// The remainder and the quotient register.
+pub struct Divider {
+    pub rem: u64,
+    pub quot: u64,
+}
+
+// R.d and H of DIV.
+pub struct Divided {
+    pub quotient: u32,
+    pub remainder: u32,
+}
+
+// |B| of a signed word. The magnitude of -2^31 is 2^31: it keeps its top bit.
+fn magnitude(b: u32) -> u64
+    ensures { λ r. ⌜ r ≡ natAbs (signed b) ⌝ }
+{
+    if b < 0x8000_0000 {
+        return b as u64;
+    }
+    0x1_0000_0000 - b as u64
+}
+
+// The registers before the first step.
+pub fn start(a: u32, b: u32) -> Divider
+    ensures { λ r. ⌜ r ≡ dividerAt a b 0 ⌝ }
+{
+    if a == 0 {
+        return Divider { rem: 0, quot: 0 };
+    }
+    if 0x8000_0000 <= a {
+        return Divider { rem: 0, quot: 0 };
+    }
+    Divider {
+        rem: 0,
+        quot: magnitude(b),
+    }
+}
+
+// One step: the pair goes left by one place, and A is taken off the remainder where it goes.
+pub fn step(rem: u64, quot: u64, a: u32) -> Divider
+    ensures { λ r. ⌜ r ≡ divStep rem quot a ⌝ }
+{
+    if a == 0 {
+        return Divider { rem: 0, quot: 0 };
+    }
+    if 0x8000_0000 <= a {
+        return Divider { rem: 0, quot: 0 };
+    }
+    let w = a as u64;
+    let trial = rem % 0x1_0000_0000 * 2 + quot / 0x8000_0000 % 2;
+    let rest = quot % 0x8000_0000 * 2;
+    if trial < w {
+        return Divider {
+            rem: trial,
+            quot: rest,
+        };
+    }
+    Divider {
+        rem: trial - w,
+        quot: rest + 1,
+    }
+}
+
+// The quotient rounded down and its remainder, from the registers after 32 steps.
+pub fn finish(rem: u64, quot: u64, a: u32, b: u32) -> Divided
+    requires { ⌜ (rem ≡ divRem a b 32) × (quot ≡ divQuot a b 32) ⌝ }
+    ensures { λ r. ⌜ r ≡ divided a b ⌝ }
+{
+    if a == 0 {
+        return Divided {
+            quotient: 0,
+            remainder: b,
+        };
+    }
+    if 0x8000_0000 <= a {
+        return Divided {
+            quotient: 0,
+            remainder: b,
+        };
+    }
+    let q = quot as u32;
+    let r = rem as u32;
+    if b < 0x8000_0000 {
+        return Divided {
+            quotient: q,
+            remainder: r,
+        };
+    }
+    if r == 0 {
+        return Divided {
+            quotient: 0xFFFF_FFFF - q + 1,
+            remainder: 0,
+        };
+    }
+    let rest = a - r;
+    Divided {
+        quotient: 0xFFFF_FFFF - q,
+        remainder: rest,
+    }
+}
+
+// The registers after k steps, without the steps.
+pub fn after(a: u32, b: u32, k: u64) -> Divider
+    requires { ⌜ k ≤ 32 ⌝ }
+    ensures { λ r. ⌜ r ≡ dividerAt a b k ⌝ }
+{
+    if a == 0 {
+        return Divider { rem: 0, quot: 0 };
+    }
+    if 0x8000_0000 <= a {
+        return Divider { rem: 0, quot: 0 };
+    }
+    let m = magnitude(b);
+    let t = m >> (32 - k);
+    let w = a as u64;
+    Divider {
+        rem: t % w,
+        quot: (m << k) % 0x1_0000_0000 + t / w,
+    }
+}

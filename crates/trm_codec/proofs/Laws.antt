@@ -1,0 +1,7 @@
+-- The laws, one theme to a file.
+-- `Masks`: a word under a mask of ranges of bits; `Operations`: numbers and operations are inverse;
+-- `Recode`, `RoundTrip`: the two inverses of decode and encode. Assumes nothing.
+pub mod Masks
+pub mod Operations
+pub mod Recode
+pub mod RoundTrip

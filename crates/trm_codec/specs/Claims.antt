@@ -1,0 +1,48 @@
+-- What is claimed of decode and encode beside their contracts: one statement to a field.
+-- Paper: demand 2, "Decode and encode are inverse"; "Unused bits encode as zero"; rows 3 and 10. The value is in proofs/Theorems.antt.
+-- Assumes nothing.
+use Prim.Native.Nat.{ℕ, _^_, _<_}
+use mathlib.Core.Path.{_≡_}
+use mathlib.Core.Bool.{cond}
+use lib.Dec.{ltb}
+use Rattle.trm_codec.specs.declared.instruction.Instruction.{Instruction}
+use Rattle.trm_codec.specs.declared.instruction.Decoded.the-variants as D
+use Rattle.trm_codec.specs.declared.instruction.Encoded.the-variants as E
+use Rattle.trm_codec.specs.Decode.{decodeOf}
+use Rattle.trm_codec.specs.Encode.{encodeOf, fits}
+use Rattle.trm_codec.specs.Unused.{unusedZero}
+use Rattle.trm_codec.specs.Refusals.{decodeNumber, encodeNumber}
+use Rattle.trm_codec.specs.Worked.{rows, RowsHold}
+
+-- the instruction that w decodes to encodes as w with its unused bits zero
+pub record Recodes (w : ℕ) : Type 0 where
+  pub instruction : Instruction
+  pub decoded : decodeOf w ≡ D.Instruction instruction
+  pub encoded : encodeOf instruction ≡ E.Word (unusedZero w)
+
+-- Every word below 2^18, decoded and encoded, is itself with its unused bits zero.
+abbrev pub DecodeEncode : Type 0
+DecodeEncode = (w : ℕ) → w < 2 ^ 18 → Recodes w
+
+-- Every instruction that encodes decodes to itself.
+abbrev pub EncodeDecode : Type 0
+EncodeDecode = (i : Instruction) (w : ℕ) → encodeOf i ≡ E.Word w → decodeOf w ≡ D.Instruction i
+
+-- Decode refuses with 3 exactly the words above 3FFFFH.
+abbrev pub DecodeRefuses : Type 0
+DecodeRefuses = (w : ℕ) → decodeNumber (decodeOf w) ≡ cond (ltb 0x3FFFF w) 3 0
+
+-- Encode refuses with 10 exactly the instructions with a field outside its width.
+abbrev pub EncodeRefuses : Type 0
+EncodeRefuses = (i : Instruction) → encodeNumber (encodeOf i) ≡ cond (fits i) 0 10
+
+-- The worked words hold.
+abbrev pub WordsHold : Type 0
+WordsHold = RowsHold rows
+
+pub record Claims : Type 0 where
+  pub decode-encode : DecodeEncode
+  pub encode-decode : EncodeDecode
+  pub decode-refuses : DecodeRefuses
+  pub encode-refuses : EncodeRefuses
+  pub words-hold : WordsHold

@@ -1,0 +1,6 @@
+// Decode and encode: 18-bit words and the instructions that they stand for, for any caller.
+// Paper: "What a programmer sees", the format of each operation; demand 2, "Decode and encode are inverse".
+// `decoder::decode` and `encoder::encode` are the two calls.
+pub mod decoder;
+pub mod encoder;
+pub mod instruction;

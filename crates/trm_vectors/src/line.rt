@@ -1,0 +1,64 @@
+// A case as a line of fixed width: a letter, then four words, each a space and eight hexadecimal digits.
+// The line's end is its last byte.
+// A byte that is no digit counts as 0.
+ghost use Prim.Native.Nat.{_<_, _≤_, _+_};
+ghost use mathlib.Core.Path.{_≡_};
+ghost use lib.ListN.{length};
+
+pub const WIDTH: usize = 38;
+
+pub struct Case {
+    pub kind: u8,
+    pub w0: u32,
+    pub w1: u32,
+    pub w2: u32,
+    pub w3: u32,
+}
+
+fn digit(c: u8) -> u32
+    ensures { λ r. ⌜ r < 16 ⌝ }
+{
+    match c {
+        b'0'..=b'9' => (c - b'0') as u32,
+        b'A'..=b'F' => (c - b'A') as u32 + 10,
+        _ => 0,
+    }
+}
+
+// Two digits.
+fn byte_at(s: &[u8], at: usize) -> u32
+    requires { ⌜ at + 2 ≤ length (now s) ⌝ }
+    ensures { λ r. ⌜ r < 256 ⌝ }
+{
+    let high = digit(s[at]);
+    let low = digit(s[at + 1]);
+    high * 16 + low
+}
+
+// Eight digits.
+fn word_at(s: &[u8], at: usize) -> u32
+    requires { ⌜ at + 8 ≤ length (now s) ⌝ }
+{
+    let a = byte_at(s, at);
+    let b = byte_at(s, at + 2);
+    let c = byte_at(s, at + 4);
+    let d = byte_at(s, at + 6);
+    a * 0x100_0000 + b * 0x1_0000 + c * 0x100 + d
+}
+
+pub fn case_of(s: &[u8]) -> Case
+    requires { ⌜ length (now s) ≡ 38 ⌝ }
+{
+    let kind = s[0];
+    let a = word_at(s, 2);
+    let b = word_at(s, 11);
+    let c = word_at(s, 20);
+    let d = word_at(s, 29);
+    Case {
+        kind: kind,
+        w0: a,
+        w1: b,
+        w2: c,
+        w3: d,
+    }
+}

@@ -1,0 +1,18 @@
+// What an answer is printed with: each piece after a space.
+// Numbers in hexadecimal have lower-case digits, as the kit's io has them.
+// Nothing is returned: a write that fails is not seen.
+
+pub fn text(s: &[u8]) {
+    io::write_all(1, b" ");
+    io::write_all(1, s);
+}
+
+pub fn hex(n: u64, width: usize) {
+    io::write_all(1, b" ");
+    io::print_hex(1, n, width);
+}
+
+pub fn decimal(n: u64) {
+    io::write_all(1, b" ");
+    io::print_decimal(1, n);
+}

@@ -1,0 +1,24 @@
+-- What is claimed of words beside the contracts: one statement to a field.
+-- Paper: "Bench cases" on addresses; conditions 0–15, "its opposite". The value is in proofs/Theorems.antt.
+-- Assumes nothing.
+use Prim.Native.Nat.{ℕ, _+_, _*_, _<_}
+use mathlib.Core.Path.{_≡_}
+use mathlib.Core.Bool.{not}
+use Rattle.trm_word.specs.declared.inner.address.Place.the-variants.{Device, Memory}
+use Rattle.trm_word.specs.Condition.{conditionHolds}
+use Rattle.trm_word.specs.Address.{effectiveAddress, placeOf}
+
+-- * R1 = FFFFH, offset 1: address 0. * FFBFH is memory, FFC0H device 0 (a store of 2,048 words: FFBFH mod 2,048 is 7BFH).
+pub record AddressesHold : Type 0 where
+  pub wraps : effectiveAddress 0xFFFF 1 ≡ 0
+  pub memory : placeOf 0xFFBF 2048 ≡ Memory 0x7BF
+  pub device : placeOf 0xFFC0 2048 ≡ Device 0
+
+-- Each condition with an odd number is the opposite of the one before it.
+abbrev pub ConditionsPaired : Type 0
+ConditionsPaired =
+    (k n z c v : ℕ) → k < 8 → conditionHolds (k * 2 + 1) n z c v ≡ not (conditionHolds (k * 2) n z c v)
+
+pub record Claims : Type 0 where
+  pub addresses-hold : AddressesHold
+  pub conditions-paired : ConditionsPaired
