@@ -35,10 +35,10 @@ def divide(a, b):
     return signed(b) // a & MASK, signed(b) % a
 
 
-def operation(op, b, a):
-    """R.d, H, N, Z, C, V after an operation; H, C and V are 0 before it."""
+def operation(op, b, a, carry, overflow):
+    """R.d, H (None where the operation leaves it), N, Z, C, V after an operation; C and V before it are given."""
     exact = {2: signed(b) + signed(a), 3: signed(b) - signed(a)}.get(op)
-    high = 0
+    high = None
     if op == 8:
         product = multiplier(a, b, 32)
         result, high = product & MASK, product >> 32
@@ -46,7 +46,6 @@ def operation(op, b, a):
         result, high = divide(a, b)
     else:
         result = {0: a, 1: a ^ MASK, 4: b & a, 5: b & (a ^ MASK), 6: b | a, 7: b ^ a, 10: rotate_right(b, a % 32)}.get(op)
-    carry = overflow = 0
     if exact is not None:
         result = exact & MASK
         carry, overflow = int(exact < 0), int(not -(2**31) <= exact < 2**31)

@@ -5,7 +5,7 @@ use Rattle.trm_alu.specs.Claims.{Claims}
 use Rattle.trm_alu.proofs.Laws.Product.{mul-start, mul-end}
 use Rattle.trm_alu.proofs.Laws.Multiplier.{mul-step}
 use Rattle.trm_alu.proofs.Laws.Division.{div-step}
-use Rattle.trm_alu.proofs.Laws.Floor.{div-floor}
+use Rattle.trm_alu.proofs.Laws.Floor.{div-floor, mul-exact}
 use Rattle.trm_alu.proofs.Laws.Bench.{rows-hold}
 
 pub theorems : Claims
@@ -14,6 +14,7 @@ theorems =
       mul-starts = mul-start;
       mul-steps = mul-step;
       mul-ends = mul-end;
+      mul-exact = mul-exact;
       div-steps = div-step;
       div-floors = div-floor;
       bench-holds = rows-hold;

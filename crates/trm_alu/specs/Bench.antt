@@ -1,6 +1,6 @@
--- The paper's arithmetic bench cases as rows of one table, computed: the nine starred ones, and those that tell wrong versions apart.
--- Paper: "Bench cases". A row is an operation with B and A, and R.d, H, N, Z, C, V after it; before it H, C and V are 0.
--- Assumes nothing.
+-- The paper's arithmetic bench cases as rows of one table, computed: the nine starred ones, a row for each other operation, and those
+-- that tell wrong versions apart. Paper: "Bench cases". A row is an operation with B and A, what was there before it (H, C, V), and
+-- R.d, H, N, Z, C, V after it. Assumes nothing.
 --   rows      the table        AllHold rs   every row's outcome is what the row gives
 use Prim.Native.Nat.{ℕ, _-_, _^_}
 use mathlib.Core.Path.{_≡_}
@@ -9,19 +9,30 @@ use Rattle.trm_alu.specs.declared.inner.flags.Flags.{Flags}
 use Rattle.trm_alu.specs.Results.{resultOf, highOf}
 use Rattle.trm_alu.specs.Flags.{flagsOf}
 
+pub record Before : Type 0 where
+  pub h : ℕ
+  pub c : ℕ
+  pub v : ℕ
+
 pub record Row : Type 0 where
   pub op : ℕ
   pub b : ℕ
   pub a : ℕ
+  pub before : Before
   pub gives : List ℕ
 
 -- R.d, H, N, Z, C, V
-unfoldable pub outcome : ℕ → ℕ → ℕ → List ℕ
-outcome op b a =
-    let f : Flags = flagsOf op a b 0 0 in resultOf op a b ∷ highOf op a b 0 ∷ f .n ∷ f .z ∷ f .c ∷ f .v ∷ []
+unfoldable pub outcome : Row → List ℕ
+outcome r =
+    let f : Flags = flagsOf (r .op) (r .a) (r .b) (r .before .c) (r .before .v) in
+    resultOf (r .op) (r .a) (r .b) ∷ highOf (r .op) (r .a) (r .b) (r .before .h) ∷ f .n ∷ f .z ∷ f .c ∷ f .v ∷ []
 
+-- H, C and V zero before the operation, or H 5 and C, V set
 abbrev pub row : ℕ → ℕ → ℕ → List ℕ → Row
-row op b a gives = record { op = op; b = b; a = a; gives = gives }
+row op b a gives = record { op = op; b = b; a = a; before = record { h = 0; c = 0; v = 0 }; gives = gives }
+
+abbrev pub rowSet : ℕ → ℕ → ℕ → List ℕ → Row
+rowSet op b a gives = record { op = op; b = b; a = a; before = record { h = 5; c = 1; v = 1 }; gives = gives }
 
 -- a negative number is written as 2^32 less its magnitude
 unfoldable pub rows : List Row
@@ -41,8 +52,20 @@ rows =
     -- −8 DIV 3, which tells a remainder from its complement; −2^31 − 1, which tells C from the unsigned borrow
     ∷ row 9 (2 ^ 32 - 8) 3 ((2 ^ 32 - 3) ∷ 1 ∷ 1 ∷ 0 ∷ 0 ∷ 0 ∷ [])
     ∷ row 3 (2 ^ 31) 1 (0x7FFF_FFFF ∷ 0 ∷ 0 ∷ 0 ∷ 1 ∷ 1 ∷ [])
+    -- C and V change only in ADD, SUB and (C alone) ROR, and H only in MUL and DIV: each operation with H 5, C 1, V 1 before it
+    ∷ rowSet 0 9 0 (0 ∷ 5 ∷ 0 ∷ 1 ∷ 1 ∷ 1 ∷ [])
+    ∷ rowSet 1 9 0xFFFF (0xFFFF_0000 ∷ 5 ∷ 1 ∷ 0 ∷ 1 ∷ 1 ∷ [])
+    ∷ rowSet 2 3 4 (7 ∷ 5 ∷ 0 ∷ 0 ∷ 0 ∷ 0 ∷ [])
+    ∷ rowSet 3 4 3 (1 ∷ 5 ∷ 0 ∷ 0 ∷ 0 ∷ 0 ∷ [])
+    ∷ rowSet 4 0xF0F0_1234 0xFFFF_0000 (0xF0F0_0000 ∷ 5 ∷ 1 ∷ 0 ∷ 1 ∷ 1 ∷ [])
+    ∷ rowSet 5 0xF0F0_1234 0xFFFF_0000 (0x1234 ∷ 5 ∷ 0 ∷ 0 ∷ 1 ∷ 1 ∷ [])
+    ∷ rowSet 6 0xF0F0_1234 0x0F0F_0000 (0xFFFF_1234 ∷ 5 ∷ 1 ∷ 0 ∷ 1 ∷ 1 ∷ [])
+    ∷ rowSet 7 0xF0F0_1234 0xFFFF_FFFF (0x0F0F_EDCB ∷ 5 ∷ 0 ∷ 0 ∷ 1 ∷ 1 ∷ [])
+    ∷ rowSet 8 3 5 (15 ∷ 0 ∷ 0 ∷ 0 ∷ 1 ∷ 1 ∷ [])
+    ∷ rowSet 9 17 5 (3 ∷ 2 ∷ 0 ∷ 0 ∷ 1 ∷ 1 ∷ [])
+    ∷ rowSet 10 4 1 (2 ∷ 5 ∷ 0 ∷ 0 ∷ 0 ∷ 1 ∷ [])
     ∷ []
 
 unfoldable pub AllHold : List Row → Type 0
 AllHold [] = Unit {0}
-AllHold (r ∷ rs) = (outcome (r .op) (r .b) (r .a) ≡ r .gives) × AllHold rs
+AllHold (r ∷ rs) = (outcome r ≡ r .gives) × AllHold rs

@@ -25,6 +25,12 @@ abbrev pub MulEnds : Type 0
 MulEnds =
     (a b : ℕ) → (mulAfter a b 32 % 2 ^ 32 ≡ lowWord (product a b)) × (mulAfter a b 32 / 2 ^ 32 ≡ highWord (product a b))
 
+-- The two words together, the high one signed, are the exact signed product.
+abbrev pub MulExact : Type 0
+MulExact =
+    (a b : ℕ) → a < 2 ^ 32 → b < 2 ^ 32
+    → signed (highWord (product a b)) *ℤ pos (2 ^ 32) +ℤ pos (lowWord (product a b)) ≡ product a b
+
 -- The step takes the divider's registers after k steps to those after k + 1, k = 0 to 31, whatever A is.
 abbrev pub DivSteps : Type 0
 DivSteps =
@@ -44,6 +50,7 @@ pub record Claims : Type 0 where
   pub mul-starts : MulStarts
   pub mul-steps : MulSteps
   pub mul-ends : MulEnds
+  pub mul-exact : MulExact
   pub div-steps : DivSteps
   pub div-floors : DivFloors
   pub bench-holds : BenchHolds

@@ -1,17 +1,15 @@
 -- What is claimed of decode and encode beside their contracts: one statement to a field.
--- Paper: demand 2, "Decode and encode are inverse"; "Unused bits encode as zero"; rows 3 and 10. The value is in proofs/Theorems.antt.
+-- Paper: "Unused bits encode as zero"; rows 3 and 10; demand 2: decode and encode are inverse. Value: proofs/Theorems.antt.
 -- Assumes nothing.
 use Prim.Native.Nat.{ℕ, _^_, _<_}
 use mathlib.Core.Path.{_≡_}
-use mathlib.Core.Bool.{cond}
-use lib.Dec.{ltb}
 use Rattle.trm_codec.specs.declared.instruction.Instruction.{Instruction}
 use Rattle.trm_codec.specs.declared.instruction.Decoded.the-variants as D
 use Rattle.trm_codec.specs.declared.instruction.Encoded.the-variants as E
 use Rattle.trm_codec.specs.Decode.{decodeOf}
-use Rattle.trm_codec.specs.Encode.{encodeOf, fits}
+use Rattle.trm_codec.specs.Encode.{encodeOf}
 use Rattle.trm_codec.specs.Unused.{unusedZero}
-use Rattle.trm_codec.specs.Refusals.{decodeNumber, encodeNumber}
+use Rattle.trm_codec.specs.Refusals.{decodeNumber, encodeNumber, wordRefusal, instructionRefusal}
 use Rattle.trm_codec.specs.Worked.{rows, RowsHold}
 
 -- the instruction that w decodes to encodes as w with its unused bits zero
@@ -30,11 +28,11 @@ EncodeDecode = (i : Instruction) (w : ℕ) → encodeOf i ≡ E.Word w → decod
 
 -- Decode refuses with 3 exactly the words above 3FFFFH.
 abbrev pub DecodeRefuses : Type 0
-DecodeRefuses = (w : ℕ) → decodeNumber (decodeOf w) ≡ cond (ltb 0x3FFFF w) 3 0
+DecodeRefuses = (w : ℕ) → decodeNumber (decodeOf w) ≡ wordRefusal w
 
 -- Encode refuses with 10 exactly the instructions with a field outside its width.
 abbrev pub EncodeRefuses : Type 0
-EncodeRefuses = (i : Instruction) → encodeNumber (encodeOf i) ≡ cond (fits i) 0 10
+EncodeRefuses = (i : Instruction) → encodeNumber (encodeOf i) ≡ instructionRefusal i
 
 -- The worked words hold.
 abbrev pub WordsHold : Type 0

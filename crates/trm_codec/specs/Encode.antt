@@ -5,7 +5,6 @@
 use Prim.Native.Nat.{ℕ, _+_, _*_, _^_}
 use mathlib.Core.Bool.{Bool, cond, _&&_}
 use lib.Dec.{ltb}
-use Rattle.trm_codec.specs.declared.instruction.Operation.{Operation}
 use Rattle.trm_codec.specs.declared.instruction.Operand.{Operand}
 use Rattle.trm_codec.specs.declared.instruction.Operand.the-variants.{Register, Literal}
 use Rattle.trm_codec.specs.declared.instruction.Instruction.{Instruction}
@@ -63,9 +62,6 @@ encodedAs ok w = cond ok (E.Word w) E.Refused
 unfoldable pub encodeOf : Instruction → Encoded
 encodeOf i = encodedAs (fits i) (placed i)
 
--- the answers of the two larger groups, as the code's parts give them
-abbrev pub arithmeticEncoded : Operation → ℕ → Operand → Encoded
-arithmeticEncoded o d x = encodedAs (fits (Arithmetic o d x)) (placed (Arithmetic o d x))
-
+-- LD and ST alike, by their number
 abbrev pub memoryEncoded : ℕ → ℕ → ℕ → ℕ → Encoded
 memoryEncoded op d s offset = encodedAs (memoryFits d s offset) (memoryPlaced op d s offset)

@@ -3,31 +3,11 @@
 // Any caller, any word: the instruction, or the refusal 3 of a word above 3FFFFH.
 ghost use mathlib.Core.Path.{_≡_};
 ghost use Rattle.trm_word.specs.Fields.{movesHigh};
-ghost use Rattle.trm_codec.specs.Operations.{operationAt};
-ghost use Rattle.trm_codec.specs.Decode.{operandOf, arithmeticOf, controlOf, decodeOf};
+ghost use Rattle.trm_codec.specs.Decode.{operandOf, arithmeticOf, controlOf};
+ghost use Rattle.trm_codec.specs.Refusals.{Decodes};
 use crate::instruction::Decoded;
 use crate::instruction::Instruction;
 use crate::instruction::Operand;
-use crate::instruction::Operation;
-
-// The operation 0-10 of this number.
-pub fn operation_at(number: u32) -> Operation
-    ensures { λ r. ⌜ r ≡ operationAt number ⌝ }
-{
-    match number {
-        0 => Operation::Mov,
-        1 => Operation::Not,
-        2 => Operation::Add,
-        3 => Operation::Sub,
-        4 => Operation::And,
-        5 => Operation::Bic,
-        6 => Operation::Or,
-        7 => Operation::Xor,
-        8 => Operation::Mul,
-        9 => Operation::Div,
-        _ => Operation::Ror,
-    }
-}
 
 // Whether a word is MOV from H: operation 0 with bits 10 and 3 both set.
 fn moves_high(word: u32) -> bool
@@ -61,7 +41,7 @@ fn arithmetic(word: u32) -> Instruction
         return Instruction::MoveHigh { d: d };
     }
     Instruction::Arithmetic {
-        operation: operation_at(word / 0x4000 % 16),
+        operation: crate::inner::operation_at(word / 0x4000 % 16),
         d: d,
         operand: operand_of(word),
     }
@@ -88,7 +68,7 @@ fn control(word: u32) -> Instruction
 
 // The instruction that a word stands for.
 pub fn decode(word: u32) -> Decoded
-    ensures { λ r. ⌜ r ≡ decodeOf word ⌝ }
+    ensures { λ r. ⌜ Decodes word r ⌝ }
 {
     if 0x3FFFF < word {
         return Decoded::Refused;

@@ -4,37 +4,18 @@
 ghost use mathlib.Core.Path.{_≡_};
 ghost use mathlib.Core.Bool.{cond};
 ghost use Prim.Native.Nat.{_<_};
-ghost use Rattle.trm_codec.specs.Operations.{numberOf};
-ghost use Rattle.trm_codec.specs.Encode.{encodeOf, arithmeticEncoded, memoryEncoded};
+ghost use Rattle.trm_codec.specs.Encode.{encodeOf, memoryEncoded};
+ghost use Rattle.trm_codec.specs.Refusals.{Encodes};
 use crate::instruction::Encoded;
 use crate::instruction::Instruction;
 use crate::instruction::Operand;
 use crate::instruction::Operation;
 
-// The number of an operation 0-10.
-pub fn number_of(operation: Operation) -> u32
-    ensures { λ r. ⌜ (r ≡ numberOf operation) × (r < 11) ⌝ }
-{
-    match operation {
-        Operation::Mov => 0,
-        Operation::Not => 1,
-        Operation::Add => 2,
-        Operation::Sub => 3,
-        Operation::And => 4,
-        Operation::Bic => 5,
-        Operation::Or => 6,
-        Operation::Xor => 7,
-        Operation::Mul => 8,
-        Operation::Div => 9,
-        Operation::Ror => 10,
-    }
-}
-
 // The word of an operation 0-10.
 fn arithmetic_word(operation: Operation, d: u32, operand: Operand) -> Encoded
-    ensures { λ r. ⌜ r ≡ arithmeticEncoded operation d operand ⌝ }
+    ensures { λ r. ⌜ r ≡ encodeOf (Instruction.Arithmetic operation d operand) ⌝ }
 {
-    let number = number_of(operation);
+    let number = crate::inner::number_of(operation);
     if 8 <= d {
         return Encoded::Refused;
     }
@@ -74,7 +55,7 @@ fn memory_word(number: u32, d: u32, s: u32, offset: u32) -> Encoded
 
 // The word of an instruction; unused bits are zero.
 pub fn encode(instruction: Instruction) -> Encoded
-    ensures { λ r. ⌜ r ≡ encodeOf instruction ⌝ }
+    ensures { λ r. ⌜ Encodes instruction r ⌝ }
 {
     match instruction {
         Instruction::Arithmetic {

@@ -11,12 +11,6 @@ use trm_alu::inner::divide::Divider;
 use trm_alu::inner::flags;
 use trm_alu::inner::multiply;
 
-// R.d and H.
-struct Outcome {
-    result: u32,
-    high: u32,
-}
-
 // The multiplier's register after so many steps.
 fn multiplied(a: u32, b: u32, steps: u32) -> u64 {
     let mut acc = a as u64;
@@ -52,48 +46,55 @@ fn divide_whole(a: u32, b: u32) -> Divided
     divide::finish(d.rem, d.quot, a, b)
 }
 
-// H is 0 before the operation.
-fn outcome_of(number: u32, b: u32, a: u32) -> Outcome {
-    match number {
-        8 => {
-            let acc = multiplied(a, b, 32);
-            Outcome {
-                result: (acc % 0x1_0000_0000) as u32,
-                high: (acc / 0x1_0000_0000) as u32,
-            }
-        }
-        9 => {
-            let d = divide_whole(a, b);
-            Outcome {
-                result: d.quotient,
-                high: d.remainder,
-            }
-        }
-        _ => Outcome {
-            result: bits::short_result(number as u64, a, b),
-            high: 0,
-        },
-    }
-}
-
-// R.d, H, N, Z, C, V; C and V are 0 before the operation.
-pub fn operation(number: u32, b: u32, a: u32) {
-    let o = outcome_of(number, b, a);
-    let f = flags::flags_after(number as u64, a, b, o.result, 0, 0);
-    print::hex(o.result as u64, 8);
-    print::hex(o.high as u64, 8);
+// R.d and then the four flags; before holds C and V before the operation, in bits 1 and 0.
+fn show(number: u32, b: u32, a: u32, before: u32, result: u32) {
+    let c = (before / 2 % 2) as u64;
+    let v = (before % 2) as u64;
+    let f = flags::flags_after(number as u64, a, b, result, c, v);
+    print::hex(result as u64, 8);
     print::decimal(f.n);
     print::decimal(f.z);
     print::decimal(f.c);
     print::decimal(f.v);
 }
 
-pub fn multiplier(steps: u32, b: u32, a: u32) {
-    print::hex(multiplied(a, b, steps), 16);
+// R.d, N, Z, C, V; for MUL and DIV also H.
+pub fn operation(number: u32, b: u32, a: u32, before: u32) {
+    match number {
+        8 => {
+            let acc = multiplied(a, b, 32);
+            show(number, b, a, before, (acc % 0x1_0000_0000) as u32);
+            print::hex(acc / 0x1_0000_0000, 8);
+        }
+        9 => {
+            let d = divide_whole(a, b);
+            show(number, b, a, before, d.quotient);
+            print::hex(d.remainder as u64, 8);
+        }
+        _ => show(
+            number,
+            b,
+            a,
+            before,
+            bits::short_result(number as u64, a, b),
+        ),
+    }
 }
 
+// The register by the steps, and by its closed form.
+pub fn multiplier(steps: u32, b: u32, a: u32) {
+    print::hex(multiplied(a, b, steps), 16);
+    print::hex(multiply::after(a, b, steps as u64), 16);
+}
+
+// The registers by the steps, and by their closed form.
 pub fn divider(steps: u32, b: u32, a: u32) {
     let d = divided_so_far(a, b, steps);
     print::hex(d.rem, 8);
     print::hex(d.quot, 8);
+    if steps <= 32 {
+        let e = divide::after(a, b, steps as u64);
+        print::hex(e.rem, 8);
+        print::hex(e.quot, 8);
+    }
 }

@@ -1,5 +1,5 @@
 // Each kind of case: what it asks of the library, and how the answer is printed.
-// A operation B A; M steps B A; D steps B A; C condition NZCV; E s register offset; P address length;
+// A operation B A CV; M steps B A; D steps B A; C condition NZCV; E s register offset; P address length;
 // T operation; W word; I form field field field; N.
 ghost use mathlib.Core.Path.{_≡_};
 ghost use lib.ListN.{length};
@@ -24,7 +24,7 @@ pub fn run_case(s: &[u8])
 fn answer(c: Case) {
     let kind = c.kind;
     match kind {
-        b'A' => arithmetic::operation(c.w0, c.w1, c.w2),
+        b'A' => arithmetic::operation(c.w0, c.w1, c.w2, c.w3),
         b'M' => arithmetic::multiplier(c.w0, c.w1, c.w2),
         b'D' => arithmetic::divider(c.w0, c.w1, c.w2),
         b'C' => condition(c.w0, c.w1),

@@ -1,9 +1,10 @@
 // Cases on words: decode with its instruction's fields, encode of any fields, and a count over all words.
-// Paper: the formats; "Decode and encode are inverse"; rows 3 and 10 of the refusals.
+// Paper: the formats; "Unused bits encode as zero"; rows 3 and 10 of the refusals.
 // Forms: 0 register, 1 literal, 2 MOV H, 3 status, 4 jump, 5 jump and link, 6 RTI, 7 LD, 8 ST, 9 branch, 10 call.
 use crate::print;
 use trm_codec::decoder;
 use trm_codec::encoder;
+use trm_codec::inner;
 use trm_codec::instruction::Decoded;
 use trm_codec::instruction::Encoded;
 use trm_codec::instruction::Instruction;
@@ -24,8 +25,8 @@ fn show_instruction(i: Instruction) {
             d,
             operand,
         } => match operand {
-            Operand::Register(s) => show(0, encoder::number_of(operation), d, s),
-            Operand::Literal(n) => show(1, encoder::number_of(operation), d, n),
+            Operand::Register(s) => show(0, inner::number_of(operation), d, s),
+            Operand::Literal(n) => show(1, inner::number_of(operation), d, n),
         },
         Instruction::MoveHigh { d } => show(2, d, 0, 0),
         Instruction::SetStatus { status } => show(3, status, 0, 0),
@@ -60,12 +61,12 @@ pub fn decode(w: u32) {
 fn made(form: u32, x: u32, y: u32, z: u32) -> Instruction {
     match form {
         0 => Instruction::Arithmetic {
-            operation: decoder::operation_at(x),
+            operation: inner::operation_at(x),
             d: y,
             operand: Operand::Register(z),
         },
         1 => Instruction::Arithmetic {
-            operation: decoder::operation_at(x),
+            operation: inner::operation_at(x),
             d: y,
             operand: Operand::Literal(z),
         },

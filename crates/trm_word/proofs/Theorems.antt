@@ -1,10 +1,14 @@
 -- The value of the claims on words: every field of `Claims` is proved.
--- The addresses compute; the conditions go by the eight pairs, each of which is an equation of tests.
+-- The addresses compute; a device goes by the test of `placeOf`; the conditions by their eight pairs.
 -- Assumes nothing.
-use mathlib.Core.Path.{refl}
-use Prim.Native.Nat.{zero, suc}
+use mathlib.Core.Path.{_≡_, refl}
+use mathlib.Core.Bool.{Bool, true, false, cond}
+use Prim.Native.Nat.{ℕ, zero, suc, _-_, _%_, _<_}
 use native.Mathlib.Omega.{arith}
-use Rattle.trm_word.specs.Claims.{Claims, ConditionsPaired}
+use lib.Dec.{ltb}
+use Rattle.trm_word.specs.declared.inner.address.Place.the-variants.{Device, Memory}
+use Rattle.trm_word.specs.Address.{effectiveAddress}
+use Rattle.trm_word.specs.Claims.{Claims, DevicesFit, ConditionsPaired}
 
 conditions-paired : ConditionsPaired
 conditions-paired zero n z c v h = refl
@@ -17,9 +21,19 @@ conditions-paired (suc (suc (suc (suc (suc (suc zero)))))) n z c v h = refl
 conditions-paired (suc (suc (suc (suc (suc (suc (suc zero))))))) n z c v h = refl
 conditions-paired (suc (suc (suc (suc (suc (suc (suc (suc k)))))))) n z c v h = absurd (omega arith)
 
+devices-fit : DevicesFit
+devices-fit base offset length n = go (ltb (effectiveAddress base offset) 0xFFC0) refl
+  where
+    go : (t : Bool) → ltb (effectiveAddress base offset) 0xFFC0 ≡ t
+        → cond t (Memory (effectiveAddress base offset % length)) (Device (effectiveAddress base offset - 0xFFC0)) ≡ Device n
+        → n < 64
+    go true e h = let z : _≡_ {A = ℕ} 0 1 = cc in absurd (omega arith)
+    go false e h = let d : effectiveAddress base offset - 0xFFC0 ≡ n = cc in omega arith
+
 pub theorems : Claims
 theorems =
     record {
       addresses-hold = record { wraps = refl; memory = refl; device = refl };
+      devices-fit = devices-fit;
       conditions-paired = conditions-paired;
     }

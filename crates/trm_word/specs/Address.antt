@@ -16,7 +16,7 @@ baseOf s register = cond (eqb s 7) 0 register
 abbrev pub effectiveAddress : ℕ → ℕ → ℕ
 effectiveAddress base offset = (base + offset) % 65536
 
--- an address from FFC0H on is a device, so the difference does not truncate; the length is not 0
+-- an address is below 65,536 and from FFC0H on a device, so the device is 0–63; the length is not 0
 abbrev pub placeOf : ℕ → ℕ → Place
 placeOf address length = cond (ltb address 0xFFC0) (Memory (address % length)) (Device (address - 0xFFC0))
 

@@ -19,6 +19,11 @@ abbrev pub ConditionsPaired : Type 0
 ConditionsPaired =
     (k n z c v : ℕ) → k < 8 → conditionHolds (k * 2 + 1) n z c v ≡ not (conditionHolds (k * 2) n z c v)
 
+-- The devices that LD and ST can name are 0–63.
+abbrev pub DevicesFit : Type 0
+DevicesFit = (base offset length n : ℕ) → placeOf (effectiveAddress base offset) length ≡ Device n → n < 64
+
 pub record Claims : Type 0 where
   pub addresses-hold : AddressesHold
+  pub devices-fit : DevicesFit
   pub conditions-paired : ConditionsPaired

@@ -43,10 +43,11 @@ jumpForm w = bits 9 8 w
 abbrev pub memoryOffset : ℕ → ℕ
 memoryOffset w = bits 10 3 w
 
--- 14: "condition bits 13–10", "signed bits 9–0"
+-- 14: "condition bits 13–10"
 abbrev pub condition : ℕ → ℕ
 condition w = bits 13 10 w
 
+-- 14: "signed bits 9–0", here the ten bits as they stand; their sign counts where the machine adds them
 abbrev pub branchOffset : ℕ → ℕ
 branchOffset w = lowBits 10 w
 

@@ -31,14 +31,14 @@ same-true (x ∷ xs) (y ∷ ys) t =
 
 test : List Row → Bool
 test [] = true
-test (r ∷ rs) = same (outcome (r .op) (r .b) (r .a)) (r .gives) && test rs
+test (r ∷ rs) = same (outcome r) (r .gives) && test rs
 
 test-true : (rs : List Row) → test rs ≡ true → AllHold rs
 unfolding test AllHold
 test-true [] t = tt
 test-true (r ∷ rs) t =
-    let p = and-eq-true-iff (same (outcome (r .op) (r .b) (r .a)) (r .gives)) (test rs) .0 t in
-    (same-true (outcome (r .op) (r .b) (r .a)) (r .gives) (p .0), test-true rs (p .1))
+    let p = and-eq-true-iff (same (outcome r) (r .gives)) (test rs) .0 t in
+    (same-true (outcome r) (r .gives) (p .0), test-true rs (p .1))
 
 pub rows-hold : AllHold rows
 unfolding rows test same outcome signed word product lowWord highWord above0 floorDiv floorMod quotient remainder

@@ -5,7 +5,7 @@
 --   magnitude, -le, -plus, -minus      |B|                     rem-is, quot-is   the registers for A above 0
 --   registers-none, div-start, div-closed, div-step            both 0 for A not above 0; before, after k, one more
 use mathlib.Core.Path.{_≡_, refl, sym, ap, ap₂, _∙_, subst}
-use mathlib.Core.Bool.{Bool, true, false, cond, and-eq-true-iff}
+use mathlib.Core.Bool.{Bool, true, false, not, cond, and-eq-true-iff}
 use Prim.Native.Nat.{ℕ, _+_, _-_, _*_, _/_, _%_, _^_, _≤_, _<_}
 use native.Mathlib.Nat.{add-mul, mul-assoc, mul-comm, mod-lt, div-le-self}
 use native.Mathlib.Nat.{zero-mod, zero-div, div-add-mod', lt-of-le-of-lt}
@@ -14,7 +14,7 @@ use lib.Arith.{digits-div, digits-mod}
 use lib.Dec.{ltb}
 use lib.IntN.{natAbs}
 use lib.Pow.{shr-shr, shr-lt}
-use borrow.Author.Tests.{lt-ltb, le-ltb, ltb-true, ltb-false}
+use borrow.Author.Tests.{lt-ltb, le-ltb, ltb-true, ltb-false, not-true, not-false}
 use Rattle.trm_alu.specs.declared.inner.divide.Divider.{Divider}
 use Rattle.trm_alu.specs.Word.{signed}
 use Rattle.trm_alu.specs.Divide.{above0, taken, divRem, divQuot, dividerAt, divTrial, divRest, divStep}
@@ -42,6 +42,13 @@ above0-true a e =
     (ltb-true 0 a (p .0), ltb-true a (2 ^ 31) (p .1))
 
 -- ---- digits
+
+-- from the test of the code, which is the definition's
+pub above0-no : (t : Bool) (a : ℕ) → t ≡ above0 a → not t ≡ true → above0 a ≡ false
+above0-no t a e n = sym e ∙ not-true t n
+
+pub above0-yes : (t : Bool) (a : ℕ) → t ≡ above0 a → not t ≡ false → (0 < a) × (a < 2 ^ 31)
+above0-yes t a e n = above0-true a (sym e ∙ not-false t n)
 
 pub quotient-digits : (t q r a : ℕ) → t ≡ q * a + r → r < a → (t / a ≡ q) × (t % a ≡ r)
 quotient-digits t q r a e h = (ap (λ (x : ℕ). x / a) e ∙ digits-div q h, ap (λ (x : ℕ). x % a) e ∙ digits-mod q h)

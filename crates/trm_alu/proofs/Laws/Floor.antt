@@ -1,14 +1,16 @@
--- The words of DIV are those of the quotient rounded down: Q × A + R = B, and R is 0 to A − 1.
--- Idea: it holds of the signed quotient, by the sign of B; that is within 32 bits, so its word stands for it.
+-- The words of DIV are those of the quotient rounded down: Q × A + R = B, and R is 0 to A − 1. So are those of MUL, by 2^32.
+-- Idea: it holds of the signed quotient, by the sign; that is within 32 bits, so its word stands for it.
 -- Assumes nothing.
-use mathlib.Core.Path.{_≡_, ap}
+use mathlib.Core.Path.{_≡_, refl, ap}
 use mathlib.Core.Bool.{true}
-use Prim.Native.Nat.{ℕ, zero, suc, _+_, _-_, _*_, _/_, _%_, _^_, _<_}
-use native.Mathlib.Nat.{div-add-mod', mod-lt, suc-mul, div-le-self, lt-of-le-of-lt}
+use Prim.Native.Nat.{ℕ, zero, suc, _+_, _-_, _*_, _/_, _%_, _^_, _<_, _≤_}
+use native.Mathlib.Nat.{div-add-mod', mod-lt, suc-mul, div-le-self, lt-of-le-of-lt, mul-le-mul}
 use native.Mathlib.Omega.{arith}
 use lib.IntN.{ℤ, pos, negsuc, negℤ, _+ℤ_, _*ℤ_}
+use lib.Dec.{lit<}
 use borrow.Author.Tests.{lt-ltb, le-ltb}
 use Rattle.trm_alu.specs.Word.{signed, word}
+use Rattle.trm_alu.specs.Multiply.{product, lowWord, highWord}
 use Rattle.trm_alu.specs.Divide.{above0, floorDiv, floorMod, quotient, remainder}
 use Rattle.trm_alu.proofs.Laws.Signed.{Sign, plus, minus, sign}
 use Rattle.trm_alu.proofs.Laws.Division.{above0-true}
@@ -60,3 +62,48 @@ div-floor a b hb e =
     let w = signed-word (floorDiv (signed b) a) (floorDiv-within (2 ^ 31) (signed b) a (signed-within b hb)) in
     let h = above0-true a e .0 in
     (rw (e, w) (floorDiv-floorMod (signed b) a h), rw e (floorMod-lt (signed b) a h))
+
+-- the two words of a number within 64 bits are its quotient and remainder by 2^32
+word-high : (z : ℤ) → Within (2 ^ 63) z → highWord z ≡ word 32 (floorDiv z (2 ^ 32))
+unfolding highWord word floorDiv
+word-high (pos n) h = omega arith
+word-high (negsuc n) h = omega arith
+
+word-low : (z : ℤ) → lowWord z ≡ floorMod z (2 ^ 32)
+unfolding lowWord word floorMod
+word-low (pos n) = refl
+word-low (negsuc n) = refl
+
+quotient-within : (z : ℤ) → Within (2 ^ 63) z → Within (2 ^ 31) (floorDiv z (2 ^ 32))
+unfolding floorDiv
+quotient-within (pos n) h = omega arith
+quotient-within (negsuc n) h = omega arith
+
+negation-within : (h x : ℕ) → 0 < h → x ≤ h → Within h (negℤ (pos x))
+negation-within h zero hp hx = hp
+negation-within h (suc x) hp hx = hx
+
+-- each factor is at most 2^31 in magnitude, so the product is within 64 bits
+product-within : (a b : ℕ) → a < 2 ^ 32 → b < 2 ^ 32 → Within (2 ^ 63) (product a b)
+unfolding product
+product-within a b ha hb = go (sign b hb) (sign a ha)
+  where
+    small : (x y : ℕ) → x ≤ 2 ^ 31 → y ≤ 2 ^ 31 → x * y < 2 ^ 63
+    small x y hx hy = omega (arith, mul-le-mul hx hy)
+
+    go : Sign b → Sign a → Within (2 ^ 63) (signed b *ℤ signed a)
+    go (plus m hm _ s _) (plus l hl _ t _) = rw (s, t) (small m l (omega arith) (omega arith))
+    go (plus m hm _ s _) (minus l hl _ t _) =
+        let p = small m (suc l) (omega arith) (omega arith) in
+        rw (s, t) (negation-within (2 ^ 63) (m * suc l) (omega arith) (omega arith))
+    go (minus m hm _ s _) (plus l hl _ t _) =
+        let p = small (suc m) l (omega arith) (omega arith) in
+        rw (s, t) (negation-within (2 ^ 63) (suc m * l) (omega arith) (omega arith))
+    go (minus m hm _ s _) (minus l hl _ t _) = rw (s, t) (small (suc m) (suc l) (omega arith) (omega arith))
+
+pub mul-exact : (a b : ℕ) → a < 2 ^ 32 → b < 2 ^ 32
+    → signed (highWord (product a b)) *ℤ pos (2 ^ 32) +ℤ pos (lowWord (product a b)) ≡ product a b
+mul-exact a b ha hb =
+    let z = product a b in
+    let w = product-within a b ha hb in
+    rw (word-high z w, word-low z, signed-word (floorDiv z (2 ^ 32)) (quotient-within z w)) (floorDiv-floorMod z (2 ^ 32) (lit< tt))

@@ -77,20 +77,18 @@ module _ {a b r q : ℕ} (h : Ended a b r q) where
           divided-same (rw (above0-a, s) (omega arith)) (rw (above0-a, s) g)
 
   pub finish-exact : 2 ^ 31 ≤ b → r ≡ 0
-      → (0 < q) × (record { quotient = 2 ^ 32 - 1 - q + 1; remainder = 0 } ≡ divided a b)
+      → record { quotient = (2 ^ 32 - 1 - q + 1) % 2 ^ 32; remainder = 0 } ≡ divided a b
   unfolding quotient remainder floorDiv floorMod word
   finish-exact l z = go (sign b (h .word-b))
     where
-      go : Sign b → (0 < q) × (record { quotient = 2 ^ 32 - 1 - q + 1; remainder = 0 } ≡ divided a b)
+      go : Sign b → record { quotient = (2 ^ 32 - 1 - q + 1) % 2 ^ 32; remainder = 0 } ≡ divided a b
       go (plus m hm i s _) = absurd (omega arith)
       go (minus m hm i s _) =
           let f : q ≡ suc m / a = rw s at quot-end in
           let g : r ≡ suc m % a = rw s at rem-end in
           let e = pred-exact m a (h .above) (sym g ∙ z) in
-          let d = div-le-self m a in (
-            omega arith,
-            divided-same (rw (above0-a, s) (omega arith)) (rw (above0-a, s) (omega arith)),
-          )
+          let d = div-le-self m a in
+          divided-same (rw (above0-a, s) (omega arith)) (rw (above0-a, s) (omega arith))
 
   pub finish-inexact : 2 ^ 31 ≤ b → (r ≡ 0 → ⊥)
       → record { quotient = 2 ^ 32 - 1 - q; remainder = a - r } ≡ divided a b

@@ -5,7 +5,7 @@ ghost use mathlib.Core.Path.{_≡_};
 ghost use Prim.Native.Nat.{_<_, _≤_};
 ghost use lib.IntN.{natAbs};
 ghost use Rattle.trm_alu.specs.Word.{signed};
-ghost use Rattle.trm_alu.specs.Divide.{divRem, divQuot, dividerAt, divStep, divided};
+ghost use Rattle.trm_alu.specs.Divide.{above0, divRem, divQuot, dividerAt, divStep, divided};
 
 // The remainder and the quotient register.
 pub struct Divider {
@@ -19,24 +19,31 @@ pub struct Divided {
     pub remainder: u32,
 }
 
-// |B| of a signed word. The magnitude of -2^31 is 2^31: it keeps its top bit.
+// Whether A is above 0, as a signed word: the divisors that DIV divides by.
+fn above0(a: u32) -> bool
+    ensures { λ r. ⌜ r ≡ above0 a ⌝ }
+{
+    if a == 0 {
+        return false;
+    }
+    a < 0x8000_0000
+}
+
+// |B| of a signed word, in 32 bits. The magnitude of -2^31 is 2^31: it keeps its top bit.
 fn magnitude(b: u32) -> u64
     ensures { λ r. ⌜ r ≡ natAbs (signed b) ⌝ }
 {
     if b < 0x8000_0000 {
         return b as u64;
     }
-    0x1_0000_0000 - b as u64
+    (0x1_0000_0000 - b as u64) % 0x1_0000_0000
 }
 
 // The registers before the first step.
 pub fn start(a: u32, b: u32) -> Divider
     ensures { λ r. ⌜ r ≡ dividerAt a b 0 ⌝ }
 {
-    if a == 0 {
-        return Divider { rem: 0, quot: 0 };
-    }
-    if 0x8000_0000 <= a {
+    if !above0(a) {
         return Divider { rem: 0, quot: 0 };
     }
     Divider {
@@ -49,10 +56,7 @@ pub fn start(a: u32, b: u32) -> Divider
 pub fn step(rem: u64, quot: u64, a: u32) -> Divider
     ensures { λ r. ⌜ r ≡ divStep rem quot a ⌝ }
 {
-    if a == 0 {
-        return Divider { rem: 0, quot: 0 };
-    }
-    if 0x8000_0000 <= a {
+    if !above0(a) {
         return Divider { rem: 0, quot: 0 };
     }
     let w = a as u64;
@@ -75,13 +79,7 @@ pub fn finish(rem: u64, quot: u64, a: u32, b: u32) -> Divided
     requires { ⌜ (rem ≡ divRem a b 32) × (quot ≡ divQuot a b 32) ⌝ }
     ensures { λ r. ⌜ r ≡ divided a b ⌝ }
 {
-    if a == 0 {
-        return Divided {
-            quotient: 0,
-            remainder: b,
-        };
-    }
-    if 0x8000_0000 <= a {
+    if !above0(a) {
         return Divided {
             quotient: 0,
             remainder: b,
@@ -95,15 +93,17 @@ pub fn finish(rem: u64, quot: u64, a: u32, b: u32) -> Divided
             remainder: r,
         };
     }
+    let down = 0xFFFF_FFFF - q; // -q - 1
+    let negated = std::num::wrapping_add_u32(down, 1); // -q
+    let rest = a - r;
     if r == 0 {
         return Divided {
-            quotient: 0xFFFF_FFFF - q + 1,
+            quotient: negated,
             remainder: 0,
         };
     }
-    let rest = a - r;
     Divided {
-        quotient: 0xFFFF_FFFF - q,
+        quotient: down,
         remainder: rest,
     }
 }
@@ -113,10 +113,7 @@ pub fn after(a: u32, b: u32, k: u64) -> Divider
     requires { ⌜ k ≤ 32 ⌝ }
     ensures { λ r. ⌜ r ≡ dividerAt a b k ⌝ }
 {
-    if a == 0 {
-        return Divider { rem: 0, quot: 0 };
-    }
-    if 0x8000_0000 <= a {
+    if !above0(a) {
         return Divider { rem: 0, quot: 0 };
     }
     let m = magnitude(b);

@@ -4,6 +4,7 @@
 use Rattle.trm_codec.specs.Decode.{otherForms}
 use Rattle.trm_codec.specs.declared.instruction.Instruction.the-variants.{Call}
 use Rattle.trm_word.specs.Fields.{operation, callOffset}
+use Rattle.trm_codec.proofs.Laws.Numbers.{decodes}
 use borrow.Author.Tests.{lt-ltb, le-ltb}
 use Rattle.trm_laws.proofs.Match.{past}
 use lib.ListN.{List·getD-eq-default}
@@ -16,7 +17,9 @@ use Rattle.trm_codec.proofs.decoder.decode.Tie as tie
 
 returns : tie.Need-returns
 unfolding decodeOf instructionOf
-returns c = rw (lt-ltb _ _ (c .if1 .taken))
+returns c =
+    decodes _ _
+    (rw (lt-ltb _ _ (c .if1 .taken)))
 
 control-requires : tie.Need-control-requires
 control-requires c κs = search needs
@@ -26,28 +29,37 @@ arithmetic-requires c κs = search needs
 
 returns-2 : tie.Need-returns-2
 unfolding decodeOf instructionOf
-returns-2 c = rw (le-ltb _ _ (c .before .before .if1 .left), c .before .match .keys1, c .control .ensures)
+returns-2 c =
+    decodes _ _
+    (rw (le-ltb _ _ (c .before .before .if1 .left), c .before .match .keys1, c .control .ensures))
 
 returns-3 : tie.Need-returns-3
 unfolding decodeOf instructionOf
-returns-3 c = rw (le-ltb _ _ (c .before .if1 .left), c .match .keys2)
+returns-3 c =
+    decodes _ _
+    (rw (le-ltb _ _ (c .before .if1 .left), c .match .keys2))
 
 returns-4 : tie.Need-returns-4
 unfolding decodeOf instructionOf
-returns-4 c = rw (le-ltb _ _ (c .before .if1 .left), c .match .keys3)
+returns-4 c =
+    decodes _ _
+    (rw (le-ltb _ _ (c .before .if1 .left), c .match .keys3))
 
 returns-5 : tie.Need-returns-5
 unfolding decodeOf instructionOf
-returns-5 c = rw (le-ltb _ _ (c .before .if1 .left), c .match .keys4)
+returns-5 c =
+    decodes _ _
+    (rw (le-ltb _ _ (c .before .if1 .left), c .match .keys4))
 
 returns-6 : tie.Need-returns-6
 unfolding decodeOf instructionOf
 returns-6 c =
-    rw (
+    decodes _ _
+    (rw (
       le-ltb _ _ (c .before .before .before .if1 .left),
       lt-ltb _ _ (c .before .if2 .taken),
       c .arithmetic .ensures,
-    )
+    ))
 
 returns-7 : tie.Need-returns-7
 unfolding decodeOf instructionOf
@@ -56,7 +68,12 @@ returns-7 c =
     let w = c .before .before .before .args .word in
     let p : 15 ≤ operation w = past 11 4 (operation w) (c .if2 .left) r in
     let h : 4 ≤ operation w - 11 = omega arith in
-    rw (le-ltb _ _ (c .before .before .if1 .left), le-ltb _ _ (c .if2 .left), List·getD-eq-default (otherForms w) (Call (callOffset w)) h)
+    decodes _ _
+    (rw (
+      le-ltb _ _ (c .before .before .if1 .left),
+      le-ltb _ _ (c .if2 .left),
+      List·getD-eq-default (otherForms w) (Call (callOffset w)) h,
+    ))
 
 pub decode-spec : {M : Type 1} → statement M
 decode-spec =

@@ -1,6 +1,7 @@
 -- The word of an operation 0-10.
 -- Each way out: d, then the operand by its kind.
 -- Assumes nothing.
+use Rattle.trm_codec.specs.Encode.{encodeOf}
 use borrow.Author.Tests.{lt-ltb, le-ltb}
 use borrow.Author.Needs.{needs}
 use Rattle.trm_codec.proofs.encoder.arithmetic_word.Statement.{statement}
@@ -10,6 +11,7 @@ number-of-requires : tie.Need-number-of-requires
 number-of-requires c κs = search needs
 
 returns : tie.Need-returns
+unfolding encodeOf
 returns c = rw (le-ltb _ _ (c .if1 .taken))
 
 mul-high : tie.Need-mul-high
@@ -25,6 +27,7 @@ enum-known-operand : tie.Need-enum-known-operand
 enum-known-operand c = search needs
 
 returns-2 : tie.Need-returns-2
+unfolding encodeOf
 returns-2 c =
     rw (
       c .before .before .operand .given .1,
@@ -42,6 +45,7 @@ enum-known-operand-2 : tie.Need-enum-known-operand-2
 enum-known-operand-2 c = search needs
 
 returns-3 : tie.Need-returns-3
+unfolding encodeOf
 returns-3 c =
     rw (
       c .before .before .operand2 .given .1,
@@ -53,6 +57,7 @@ add-t16 : tie.Need-add-t16
 add-t16 c = search needs
 
 returns-4 : tie.Need-returns-4
+unfolding encodeOf
 returns-4 c =
     rw (
       c .before .before .operand .given .1,
@@ -62,6 +67,7 @@ returns-4 c =
     )
 
 returns-5 : tie.Need-returns-5
+unfolding encodeOf
 returns-5 c =
     rw (
       c .before .before .operand2 .given .1,

@@ -8,8 +8,8 @@ use lib.ListN.{List·getD-eq-default}
 use Prim.Native.Nat.{_≤_, zero-le}
 use mathlib.Core.Path.{sym}
 use borrow.Author.Needs.{needs}
-use Rattle.trm_codec.proofs.decoder.operation_at.Statement.{statement}
-use Rattle.trm_codec.proofs.decoder.operation_at.Tie as tie
+use Rattle.trm_codec.proofs.inner.operation_at.Statement.{statement}
+use Rattle.trm_codec.proofs.inner.operation_at.Tie as tie
 
 returns : tie.Need-returns
 returns c = search needs
