@@ -2,7 +2,7 @@
 // Paper: "C is 1 when the exact signed result is negative and V is 1 when it does not fit 32 bits".
 // Carry and overflow of ADD and of SUB, each in a function of its own.
 ghost use mathlib.Core.Path.{_≡_};
-ghost use Prim.Native.Nat.{_+_, _-_, _%_, _^_, _<_};
+ghost use Prim.Native.Nat.{_+_, _-_, _^_};
 ghost use Rattle.trm_alu.specs.Flags.{carryOfAdd, carryOfSub, overflowOfAdd, overflowOfSub};
 ghost use Rattle.trm_alu.specs.Results.{sum, difference};
 ghost use Rattle.trm_alu.specs.Word.{biased};
