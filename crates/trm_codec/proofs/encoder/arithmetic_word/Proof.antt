@@ -1,6 +1,8 @@
 -- The word of an operation 0-10.
 -- Each way out: d, then the operand by its kind.
 -- Assumes nothing.
+use Prim.Native.Nat.{_≤_, _<_}
+use native.Mathlib.Omega.{arith}
 use Rattle.trm_codec.specs.Encode.{encodeOf}
 use borrow.Author.Tests.{lt-ltb, le-ltb}
 use borrow.Author.Needs.{needs}
@@ -47,10 +49,11 @@ enum-known-operand-2 c = search needs
 returns-3 : tie.Need-returns-3
 unfolding encodeOf
 returns-3 c =
+    let h : 1024 ≤ c .before .before .operand2 .given .0 .0 = omega (arith, c .if3 .taken) in
     rw (
       c .before .before .operand2 .given .1,
       lt-ltb _ _ (c .before .before .before .before .if1 .left),
-      le-ltb _ _ (c .if3 .taken),
+      le-ltb _ _ h,
     )
 
 add-t16 : tie.Need-add-t16
@@ -69,10 +72,11 @@ returns-4 c =
 returns-5 : tie.Need-returns-5
 unfolding encodeOf
 returns-5 c =
+    let h : c .before .before .operand2 .given .0 .0 < 1024 = omega (arith, c .if3 .left) in
     rw (
       c .before .before .operand2 .given .1,
       lt-ltb _ _ (c .before .before .before .before .if1 .left),
-      lt-ltb _ _ (c .if3 .left),
+      lt-ltb _ _ h,
       c .before .before .before .before .before .number-of .ensures .0,
     )
 
