@@ -1,0 +1,128 @@
+-- The record: what a programmer sees of it, its cache, and the record after a clock.
+-- Paper: "The record holds phase and count .."; "The record also counts finished refills and write-backs"; "Reset makes everything zero
+-- and the cache empty; the store keeps its contents". Assumes nothing.
+--   visibleOf m, cacheOf m    the two parts        whole   the record from its parts        resetOf G s   after a reset
+--   advanced, ended, waited   the scalars after a clock that goes on, that ends something, that is held
+use Prim.Native.Nat.{ℕ, _+_, _*_}
+use mathlib.Core.Bool.{cond}
+use mathlib.Core.List.{List}
+use lib.ListN.{length, replicate}
+use lib.Dec.{eqb}
+use Rattle.trm_word.specs.Fields.{operation}
+use Rattle.trm_alu.specs.Multiply.{mulAfter}
+use Rattle.trm_alu.specs.Divide.{divRem, divQuot}
+use Rattle.trm_reference.specs.Geometry.{Geometry}
+use Rattle.trm_reference.specs.Visible.{Visible}
+use Rattle.trm_reference.specs.Execute.{operandA, operandB}
+use Rattle.trm_core.specs.declared.record.Counts.{Counts}
+use Rattle.trm_core.specs.declared.record.Running.{Running}
+use Rattle.trm_core.specs.declared.record.Scalars.{Scalars}
+use Rattle.trm_core.specs.declared.record.Machine.{Machine}
+use Rattle.trm_core.specs.Cache.{Cache, cache, stride}
+
+-- what a programmer sees, gathered from the scalars and the registers
+abbrev pub gathered : Scalars → List ℕ → Visible
+gathered c rs =
+    record {
+      pc = c .pc; regs = rs; h = c .h; n = c .n; z = c .z; c = c .c; v = c .v; status = c .status;
+    }
+
+abbrev pub visibleOf : Machine → Visible
+visibleOf m = gathered (m .scalars) (m .regs)
+
+abbrev pub cacheOf : Machine → Cache
+cacheOf m = cache (m .full) (m .dirty) (m .block) (m .words)
+
+abbrev pub whole : Scalars → List ℕ → Cache → Machine
+whole c rs ca =
+    record {
+      scalars = c; regs = rs; full = ca .full; dirty = ca .dirty; block = ca .block; words = ca .words;
+    }
+
+-- a record with a store: what a clock moves
+pub record Lent : Type 0 where
+  pub machine : Machine
+  pub store : List ℕ
+
+-- "for the operation not running, these registers are zero": the registers after k steps of the word w
+unfoldable pub productAt : ℕ → Visible → ℕ → ℕ
+productAt w v k = cond (eqb (operation w) 8) (mulAfter (operandA w v) (operandB w v) k) 0
+
+unfoldable pub remainderAt : ℕ → Visible → ℕ → ℕ
+remainderAt w v k = cond (eqb (operation w) 9) (divRem (operandA w v) (operandB w v) k) 0
+
+unfoldable pub quotientAt : ℕ → Visible → ℕ → ℕ
+quotientAt w v k = cond (eqb (operation w) 9) (divQuot (operandA w v) (operandB w v) k) 0
+
+-- phase 1 after k steps
+abbrev pub stepping : ℕ → Visible → ℕ → Running
+stepping w v k =
+    record {
+      phase = 1; count = k; product = productAt w v k; remainder = remainderAt w v k; quotient = quotientAt w v k;
+    }
+
+-- "Outside phase 1 .. these registers are zero"
+abbrev pub inPhase : ℕ → ℕ → Running
+inPhase phase count = record { phase = phase; count = count; product = 0; remainder = 0; quotient = 0 }
+
+-- a clock that goes on: what is running, and how many refills and write-backs it finished
+abbrev pub advanced : Scalars → Running → ℕ → ℕ → Scalars
+advanced c r refilled written =
+    record {
+      pc = c .pc; h = c .h; n = c .n; z = c .z; c = c .c; v = c .v; status = c .status;
+      running = r;
+      size = c .size;
+      counts = record {
+        clocks = c .counts .clocks + 1;
+        held = c .counts .held;
+        refills = c .counts .refills + refilled;
+        writebacks = c .counts .writebacks + written;
+      };
+    }
+
+-- a clock that carries a word out or takes an interrupt: v is what is seen then
+abbrev pub ended : Scalars → Visible → Scalars
+ended c v =
+    record {
+      pc = v .pc; h = v .h; n = v .n; z = v .z; c = v .c; v = v .v; status = v .status;
+      running = inPhase 0 0;
+      size = c .size;
+      counts = record {
+        clocks = c .counts .clocks + 1;
+        held = c .counts .held;
+        refills = c .counts .refills;
+        writebacks = c .counts .writebacks;
+      };
+    }
+
+-- "it adds one to the clock and held counts and does nothing else"
+abbrev pub waited : Scalars → Scalars
+waited c =
+    record {
+      pc = c .pc; h = c .h; n = c .n; z = c .z; c = c .c; v = c .v; status = c .status;
+      running = c .running;
+      size = c .size;
+      counts = record {
+        clocks = c .counts .clocks + 1;
+        held = c .counts .held + 1;
+        refills = c .counts .refills;
+        writebacks = c .counts .writebacks;
+      };
+    }
+
+-- "Reset makes everything zero and the cache empty"; the store's length is kept
+unfoldable pub resetOf : Geometry → List ℕ → Machine
+resetOf G s =
+    record {
+      scalars = record {
+        pc = 0; h = 0; n = 0; z = 0; c = 0; v = 0; status = 0;
+        running = inPhase 0 0;
+        size = length s;
+        counts = record { clocks = 0; held = 0; refills = 0; writebacks = 0 };
+      };
+      regs = replicate 16 0;
+      full = replicate (G .lines) 0;
+      dirty = replicate (G .lines) 0;
+      block = replicate (G .lines) 0;
+      words = replicate (G .lines * stride G) 0;
+    }

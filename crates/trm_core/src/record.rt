@@ -1,0 +1,48 @@
+// The machine record, as callers hold it: numbers only, so that any bytes are a record and row 5 judges them.
+// Paper: "The record holds phase and count"; "The record also counts finished refills and write-backs".
+// Most scalars are 64 bits wide for speed; row 5 holds each to its own width.
+
+// The counts: clocks, held clocks, finished refills and write-backs.
+#[repr(C)]
+pub struct Counts {
+    pub clocks: u64,
+    pub held: u64,
+    pub refills: u64,
+    pub writebacks: u64,
+}
+
+// What is in flight: phase and count, and the multiplier's and divider's registers.
+#[repr(C)]
+pub struct Running {
+    pub phase: u64,
+    pub count: u64,
+    pub product: u64,
+    pub remainder: u64,
+    pub quotient: u64,
+}
+
+// All that is no array. `size` is the store's length at reset; H is as wide as its type.
+#[repr(C)]
+pub struct Scalars {
+    pub h: u32,
+    pub status: u32,
+    pub pc: u64,
+    pub n: u64,
+    pub z: u64,
+    pub c: u64,
+    pub v: u64,
+    pub running: Running,
+    pub size: u64,
+    pub counts: Counts,
+}
+
+// The record: bank 0 and bank 1 of the registers; for each line full, dirty (0 or 1) and block; the lines' words, eight to a line.
+#[repr(C)]
+pub struct Machine {
+    pub scalars: Scalars,
+    pub regs: [u32; 16],
+    pub full: [u8; 16],
+    pub dirty: [u8; 16],
+    pub block: [u16; 16],
+    pub words: [u32; 128],
+}
