@@ -1,7 +1,7 @@
 -- What is claimed of the clocked machine beside the contracts: one statement to a field.
 -- Paper: the clock table on any accepted record; row 5; "a device is read or written only in that clock". The value is in
 -- proofs/Theorems.antt. Assumes nothing.
-use Prim.Native.Nat.{ℕ, _+_, _-_, _*_}
+use Prim.Native.Nat.{ℕ, _+_, _-_, _*_, _≤_}
 use mathlib.Core.Path.{_≡_}
 use mathlib.Core.Logic.{_≢_}
 use mathlib.Core.Bool.{Bool, true, false, cond, not, _&&_}
@@ -26,13 +26,13 @@ use Rattle.trm_core.specs.Clock.{chargeHere, carried, worked, heldClock,
 use Rattle.trm_core.specs.Rule.{recordOk}
 use Rattle.trm_core.specs.Refusals.{storeOk, resetRefusal, clockRefusal}
 
--- The record's arrays have the lengths of their types: of the record of the code this is so by its type.
+-- The record's arrays hold sixteen registers and all lines: of the record of the code this is so by its type.
 pub record Shaped (G : Geometry) (m : Machine) : Type 0 where
-  pub regs : length (m .regs) ≡ 16
-  pub full : length (m .full) ≡ G .lines
-  pub dirty : length (m .dirty) ≡ G .lines
-  pub block : length (m .block) ≡ G .lines
-  pub words : length (m .words) ≡ G .lines * stride G
+  pub regs : 16 ≤ length (m .regs)
+  pub full : G .lines ≤ length (m .full)
+  pub dirty : G .lines ≤ length (m .dirty)
+  pub block : G .lines ≤ length (m .block)
+  pub words : G .lines * stride G ≤ length (m .words)
 
 -- the unheld clocks still to come of the word at PC: its charge, and in flight what is left of it by phase and count; a count is
 -- below what it is taken from in an accepted record, so the differences do not truncate

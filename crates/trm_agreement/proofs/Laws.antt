@@ -1,0 +1,15 @@
+-- The steps of the proof, in order: any two machines in step, the history, the relation, one clock, the list.
+-- Idea: the reference machine is the record's visible part and counts with a flat memory, a history and clocks left.
+-- Assumes nothing.
+pub mod Simulate
+pub mod History
+pub mod Relation
+pub mod Finish
+pub mod Due
+pub mod Steps
+pub mod First
+pub mod Bounds
+pub mod Clock
+pub mod Accepted
+pub mod Fits
+pub mod Demand

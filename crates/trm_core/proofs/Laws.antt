@@ -1,0 +1,8 @@
+-- The laws of the clocked machine's definitions, one theme to a file.
+-- Idea: callers use these and never unfold the cache.
+-- Assumes nothing.
+pub mod Kind
+pub mod Lines
+pub mod Cache
+pub mod Dirty
+pub mod Rule
