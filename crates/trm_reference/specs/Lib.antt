@@ -10,3 +10,5 @@ pub mod History
 pub mod Charge
 pub mod Trace
 pub mod Reference
+pub mod Tables
+pub mod Claims

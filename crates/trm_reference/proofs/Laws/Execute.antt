@@ -66,10 +66,13 @@ calculated-narrow w v h =
   where
     op : ℕ
     op = operation w
+
     a : ℕ
     a = operandA w v
+
     b : ℕ
     b = operandB w v
+
     r : ℕ
     r = resultOf op a b
 
@@ -165,7 +168,7 @@ unfolding execute calculated branched called cacheOn turnsCacheOff
 execute-on w v x n on =
     on-cond (ltb (operation w) 11) _ _ (λ _. on)
     (λ _. on-cond (eqb (operation w) 11) _ _
-      (λ e. on-cond (isSet (bit 10 w)) _ _ (λ _. jumped-on w v on) (λ f. status-on w v (stays e f)))
+    (λ e. on-cond (isSet (bit 10 w)) _ _ (λ _. jumped-on w v on) (λ f. status-on w v (stays e f)))
     (λ _. on-cond (eqb (operation w) 12) _ _ (λ _. on)
     (λ _. on-cond (eqb (operation w) 13) _ _ (λ _. on)
     (λ _. on-cond (eqb (operation w) 14) _ _ (λ _. on)

@@ -1,0 +1,17 @@
+-- The value of the claims on the reference machine: every field of `Claims` is proved.
+-- Idea: each field is a table of Laws/Tables.antt.
+-- Assumes nothing.
+use Rattle.trm_reference.specs.Claims.{Claims}
+use Rattle.trm_reference.proofs.Laws.Tables.{starred-hold, clock-table-holds, executed-hold, interrupts-hold, histories-hold}
+use Rattle.trm_reference.proofs.Laws.Tables.{stalls-hold}
+
+pub theorems : Claims
+theorems =
+    record {
+      starred-hold = starred-hold;
+      clock-table-holds = clock-table-holds;
+      executed-hold = executed-hold;
+      interrupts-hold = interrupts-hold;
+      histories-hold = histories-hold;
+      stalls-hold = stalls-hold;
+    }

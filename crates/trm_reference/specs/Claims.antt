@@ -1,0 +1,36 @@
+-- What is claimed of the reference machine: in the cases of six tables its definitions give what the paper gives.
+-- Paper: "Bench cases", the clock table, "What a programmer sees", "Clock by clock". The value is in proofs/Theorems.antt.
+-- Assumes nothing.
+use Rattle.trm_reference.specs.Tables.{AllHold, starred, clockTable, executed, interrupts, histories, stalls}
+
+-- Every starred bench case holds, carried out as a word.
+abbrev pub StarredHold : Type 0
+StarredHold = AllHold starred
+
+-- A word of each line of the clock table, in each of its forms, is charged the clocks of that line.
+abbrev pub ClockTableHolds : Type 0
+ClockTableHolds = AllHold clockTable
+
+-- In each case a word changes PC, registers, H, flags, status and memory as the paper says, and no other register or word.
+abbrev pub ExecutedHold : Type 0
+ExecutedHold = AllHold executed
+
+-- In each case a clock takes an interrupt, begins a word or is held as the paper says.
+abbrev pub InterruptsHold : Type 0
+InterruptsHold = AllHold interrupts
+
+-- In each case the history tells which access refills and which lines are dirty, and a ten counts in the clock in which it is over.
+abbrev pub HistoriesHold : Type 0
+HistoriesHold = AllHold histories
+
+-- In each case a word finishes later by the number of its held clocks, with the same outcome.
+abbrev pub StallsHold : Type 0
+StallsHold = AllHold stalls
+
+pub record Claims : Type 0 where
+  pub starred-hold : StarredHold
+  pub clock-table-holds : ClockTableHolds
+  pub executed-hold : ExecutedHold
+  pub interrupts-hold : InterruptsHold
+  pub histories-hold : HistoriesHold
+  pub stalls-hold : StallsHold
