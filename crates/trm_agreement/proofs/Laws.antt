@@ -13,3 +13,7 @@ pub mod Clock
 pub mod Accepted
 pub mod Fits
 pub mod Demand
+pub mod Ledger
+pub mod Interrupts
+pub mod Devices
+pub mod Numbers

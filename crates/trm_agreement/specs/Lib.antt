@@ -4,3 +4,5 @@
 pub mod Log
 pub mod Calls
 pub mod Ledger
+pub mod Devices
+pub mod Claims

@@ -2,7 +2,8 @@
 -- Paper: "Demand 3 is one statement on the whole list, not one on each call". Any machine, inputs, answers and calls.
 -- Assumes nothing.
 --   Engine                      a machine: one clock, what is seen of a state, the number by which a call is turned down
---   logOf feed answer E x cs    the log        codesOf   the numbers alone        fedOf   the inputs of the calls not turned down
+--   logOf feed answer E x cs    the log        codesOf   the numbers alone
+--   fedOf, stateOf              the inputs of the calls that were not turned down; the state after all calls
 use Prim.Native.Nat.{ℕ}
 use mathlib.Core.Bool.{cond}
 use mathlib.Core.List.{List, [], _∷_, _++_}
@@ -43,3 +44,12 @@ module _ {S I O W C A : Type 0} (feed : C → List I) (answer : ℕ → C → Li
   unfoldable pub codesOf : S → List C → List ℕ
   codesOf x [] = []
   codesOf x (c ∷ cs) = E .code x c ∷ codesOf (endOf x (clocksOf x c)) cs
+
+  -- the inputs that the machine was fed: those of the calls not turned down
+  unfoldable pub fedOf : S → List C → List I
+  fedOf x [] = []
+  fedOf x (c ∷ cs) = cond (eqb (E .code x c) 0) (feed c) [] ++ fedOf (endOf x (clocksOf x c)) cs
+
+  unfoldable pub stateOf : S → List C → S
+  stateOf x [] = x
+  stateOf x (c ∷ cs) = stateOf (endOf x (clocksOf x c)) cs

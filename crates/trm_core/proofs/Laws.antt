@@ -5,4 +5,7 @@ pub mod Kind
 pub mod Lines
 pub mod Cache
 pub mod Dirty
+pub mod Deaf
 pub mod Rule
+pub mod Table
+pub mod Kept

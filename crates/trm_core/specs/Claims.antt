@@ -80,3 +80,37 @@ RecordKept =
     (G : Geometry) (p : List ℕ) (x : Lent) (pins : Pins) → geometryOk G ≡ true → Shaped G (x .machine)
     → clockRefusal G p (x .machine) (x .store) (pins .line) ≡ 0
     → Kept G p (clockOf G p x pins .state)
+
+-- The earlier simulator read its device in both clocks of a load. For every record, accepted or not: if the answer byte shows no read,
+-- the whole outcome of the clock is the same for every input word.
+abbrev pub Deaf : Type 0
+Deaf =
+    (G : Geometry) (p : List ℕ) (x : Lent) (line i j : ℕ)
+    → bit 0 (clockOf G p x (record { line = line; input = i }) .out .byte) ≡ 0
+    → clockOf G p x (record { line = line; input = i }) ≡ clockOf G p x (record { line = line; input = j })
+
+-- For every record: a held clock; a clock that takes an interrupt, in phase 0 only; any other works on the word at PC.
+pub record Clocked (G : Geometry) (p : List ℕ) (x : Lent) (pins : Pins) : Type 0 where
+  pub held : stalled (pins .line) ≡ true → clockOf G p x pins ≡ heldClock G (x .machine) (x .store)
+  pub takes : stalled (pins .line) ≡ false → acknowledges (x .machine) pins ≡ true
+    → clockOf G p x pins ≡ carried (x .machine .scalars)
+      (interrupted (visibleOf (x .machine)) (interruptChosen (x .machine .scalars .status) (pins .line)))
+      (cacheOf (x .machine)) (x .store) (silent 0)
+  pub works : stalled (pins .line) ≡ false → acknowledges (x .machine) pins ≡ false
+    → clockOf G p x pins
+      ≡ worked G (wordAt p (x .machine .scalars .pc)) (length (x .store)) (x .machine) (x .store) (pins .input)
+
+abbrev pub ClocksAreThree : Type 0
+ClocksAreThree = (G : Geometry) (p : List ℕ) (x : Lent) (pins : Pins) → Clocked G p x pins
+
+-- "What a programmer sees changes only in an instruction's last clock", for every record: a clock that carries nothing out and takes no
+-- interrupt leaves it, and answers nothing.
+pub record Unseen (G : Geometry) (p : List ℕ) (x : Lent) (pins : Pins) : Type 0 where
+  pub visible : visibleOf (clockOf G p x pins .state .machine) ≡ visibleOf (x .machine)
+  pub answer : clockOf G p x pins .out ≡ silent 0
+
+abbrev pub SeenChangesLast : Type 0
+SeenChangesLast =
+    (G : Geometry) (p : List ℕ) (x : Lent) (pins : Pins)
+    → clockOf G p x pins .out .done ≡ 0 → not (stalled (pins .line)) && acknowledges (x .machine) pins ≡ false
+    → Unseen G p x pins

@@ -1,6 +1,6 @@
 -- The record rule, row 5, a named part for each clause.
--- Paper: "The record holds phase and count: ..", "Phase 1 needs ..", row 5 of the refusals. Array entries cannot be wider than their
--- types: registers, H and words have 32 bits. The store's length is n; w is the word at PC. Assumes nothing.
+-- Paper: "The record holds phase and count: ..", "Phase 1 needs ..", row 5 of the refusals. Registers, H and words have 32 bits by
+-- their types. The store's length is n; w is the word at PC. Assumes nothing.
 --   widthsOk, phaseOk, registersOk, countsOk, linesOk   the clauses        recordOk G p n m   all of them
 use Prim.Native.Nat.{ℕ, zero, suc, _+_, _*_, _^_}
 use mathlib.Core.Bool.{Bool, true, cond, not, _&&_, _||_}

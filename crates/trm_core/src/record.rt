@@ -1,6 +1,6 @@
 // The machine record, as callers hold it: numbers only, so that any bytes are a record and row 5 judges them.
 // Paper: "The record holds phase and count"; "The record also counts finished refills and write-backs".
-// Most scalars are 64 bits wide for speed; row 5 holds each to its own width.
+// Most scalars are 64 bits wide for speed; row 5 holds each to its own width, and row 4 `size` to the store.
 
 // The counts: clocks, held clocks, finished refills and write-backs.
 #[repr(C)]

@@ -15,7 +15,7 @@ pub record Geometry : Type 0 where
 abbrev pub paperGeometry : Geometry
 paperGeometry = record { lines = 16; words = 8; waits = 2 }
 
--- the figures that the definitions are claimed for: lines 4 to 64, words 4 to 16, waits 0 to 15; the paper's are among them
+-- the figures that the definitions are claimed for: lines 4, 8, 16, 32 or 64, words 4, 8 or 16, waits 0 to 15; the paper's are among them
 unfoldable pub oneOf : ℕ → List ℕ → Bool
 oneOf n [] = false
 oneOf n (k ∷ ks) = eqb n k || oneOf n ks

@@ -64,7 +64,8 @@ module _ (G : Geometry) where
     lines = λ l h. (let o = c .sane .each l h in record { home = o .home; inside = λ f. rw (c .size) at (o .inside f);
       shown = shown l h (cacheOn (visibleOf m)) refl; emptyClean = o .emptyClean; emptyZero = o .emptyZero });
     phase = phase-is w (m .scalars .size) _ (m .scalars .running) (visibleOf m) (cacheOf m) s (e .history) (e .left) (r .flight);
-    registers = registers-are w (m .scalars .size) _ (m .scalars .running) (visibleOf m) (cacheOf m) s (e .history) (e .left) (r .flight) })
+    registers = registers-are w (m .scalars .size) _ (m .scalars .running) (visibleOf m) (cacheOf m) s (e .history) (e .left)
+        (r .flight) })
     where
       w : ℕ
       w = wordAt p (m .scalars .pc)

@@ -35,7 +35,8 @@ module _ (G : Geometry) where
   kind-pos uncached false mi ev d = omega arith
   kind-pos clearing st mi ev d = omega arith
 
-  kind-bounded : (k : Kind) (store misses evicts : Bool) (dirty : ℕ) → dirty ≤ G .lines → chargeOfKind G k store misses evicts dirty ≤ longest G
+  kind-bounded : (k : Kind) (store misses evicts : Bool) (dirty : ℕ) → dirty ≤ G .lines
+      → chargeOfKind G k store misses evicts dirty ≤ longest G
   unfolding chargeOfKind missCharge longest
   kind-bounded quick st mi ev d h = omega arith
   kind-bounded second st mi ev d h = omega arith
@@ -63,6 +64,7 @@ module _ (G : Geometry) where
 
   pub charge-bounded : (w : ℕ) (q : Reference) → charge G w q ≤ longest G
   unfolding charge
-  charge-bounded w q = rw (kind-is w (q .visible) (length (q .memory)) .charge G (misses G w q) (evicts G w q) (dirtyLines G (q .history)))
+  charge-bounded w q = rw
+      (kind-is w (q .visible) (length (q .memory)) .charge G (misses G w q) (evicts G w q) (dirtyLines G (q .history)))
     (kind-bounded (kindOf w (q .visible) (length (q .memory))) (isStore w) (misses G w q) (evicts G w q) (dirtyLines G (q .history))
       (unfold dirtyLines in howMany-le (G .lines) (dirtyNow G (q .history))))

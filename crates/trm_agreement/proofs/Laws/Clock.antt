@@ -135,7 +135,8 @@ module _ (G : Geometry) (p : List ℕ) where
           (first-step G p w m s e cm wq mt k d kq is (cq ∙ q) (omega arith))
         go : (t : Bool) → eqb c 1 ≡ t → Agree G p (worked G w (m .scalars .size) m s i) (takeOff G w (plainOf m e) c i)
         go true z = ends k c i kq (lq ∙ z) (eqb-true c 1 z) (due-now G p w m s e cm wq mt k is (cq ∙ eqb-true c 1 z))
-        go false z = more c refl (eqb-false c 1 z) (λ y. absurd (let h = charge-here-pos G w (m .scalars .size) (visibleOf m) (cacheOf m) in omega arith))
+        go false z = more c refl (eqb-false c 1 z)
+            (λ y. absurd (let h = charge-here-pos G w (m .scalars .size) (visibleOf m) (cacheOf m) in omega arith))
 
     interrupt-step : (line : ℕ) → Matches G (e .history) (cacheOf m)
       → Agree G p (carried (m .scalars) (interrupted (visibleOf m) (interruptChosen (m .scalars .status) line)) (cacheOf m) s (silent 0))
@@ -187,14 +188,17 @@ module _ (G : Geometry) (p : List ℕ) where
           ∙ ap (λ x. eqb (m .scalars .running .count + 1) x) (is .cost)
         go : (t : Bool) → eqb (m .scalars .running .count + 1) 33 ≡ t
           → Agree G p (worked G w (m .scalars .size) m s (pins .input)) (takeOff G w (plainOf m e) (e .left) (pins .input))
-        go true z = ends longer (e .left) (pins .input) (kq ∙ q) (lq ∙ z) (let y = eqb-true (m .scalars .running .count + 1) 33 z in omega arith) mt
+        go true z = ends longer (e .left) (pins .input) (kq ∙ q) (lq ∙ z)
+            (let y = eqb-true (m .scalars .running .count + 1) 33 z in omega arith) mt
         go false z = let y = eqb-false (m .scalars .running .count + 1) 33 z in
           goes-on (e .left) (e .left - 1) (pins .input) _ (lq ∙ z) (omega arith) (omega arith)
             (advance-1 G w (m .scalars .size) (visibleOf m) (cacheOf m) (m .scalars) s ph)
-            (still-move G p w m s e cm wq mt longer (stepping w (visibleOf m) (m .scalars .running .count + 1)) (e .left - 1) (kq ∙ q) is refl refl
+            (still-move G p w m s e cm wq mt longer (stepping w (visibleOf m) (m .scalars .running .count + 1)) (e .left - 1)
+                (kq ∙ q) is refl refl
               (arithmetic refl refl (omega arith) (omega arith) (omega arith) mt))
     unheld-step k pins kq (writeBack q rq hc sum mt hold d wr) = in-flight k pins 1 ph (omega arith)
-        (goes-on (e .left) (e .left - 1) (pins .input) _ (last-2 G w (m .scalars .size) (visibleOf m) (cacheOf m) (m .scalars .running) ph)
+        (goes-on (e .left) (e .left - 1) (pins .input) _
+            (last-2 G w (m .scalars .size) (visibleOf m) (cacheOf m) (m .scalars .running) ph)
           (omega arith) (omega arith) (advance-2 G w (m .scalars .size) (visibleOf m) (cacheOf m) (m .scalars) s ph ∙ (rw (is .off)))
           (write-step G p w m s e cm wq (e .left - 1) (kq ∙ q) hc (omega arith) mt hold d wr))
       where
@@ -203,8 +207,10 @@ module _ (G : Geometry) (p : List ℕ) where
         is : Is cached w (visibleOf m) (m .scalars .size)
         is = rw (kq ∙ q) at (kind-is w (visibleOf m) (m .scalars .size))
     unheld-step k pins kq (clearingOff q rq hc sum some wr) = in-flight k pins 1 ph (omega (arith, more))
-        (goes-on (e .left) (e .left - 1) (pins .input) _ (last-2 G w (m .scalars .size) (visibleOf m) (cacheOf m) (m .scalars .running) ph)
-          (omega (arith, more)) (omega (arith, more)) (advance-2 G w (m .scalars .size) (visibleOf m) (cacheOf m) (m .scalars) s ph ∙ (rw (is .off)))
+        (goes-on (e .left) (e .left - 1) (pins .input) _
+            (last-2 G w (m .scalars .size) (visibleOf m) (cacheOf m) (m .scalars .running) ph)
+          (omega (arith, more)) (omega (arith, more))
+              (advance-2 G w (m .scalars .size) (visibleOf m) (cacheOf m) (m .scalars) s ph ∙ (rw (is .off)))
           (clear-step G p w m s e cm wq (m .scalars .running .count) (e .left - 1) (kq ∙ q) hc (omega (arith, more)) some wr))
       where
         ph : m .scalars .running .phase ≡ 2
@@ -214,19 +220,22 @@ module _ (G : Geometry) (p : List ℕ) where
         more : burst G ≤ burst G * countDirty G (cacheOf m)
         more = times-pos (burst G) (countDirty G (cacheOf m)) some
     unheld-step k pins kq (refill q rq hc sum mt empty missed fl) = in-flight k pins 2 ph (omega arith)
-        (goes-on (e .left) (e .left - 1) (pins .input) _ (last-3 G w (m .scalars .size) (visibleOf m) (cacheOf m) (m .scalars .running) ph)
+        (goes-on (e .left) (e .left - 1) (pins .input) _
+            (last-3 G w (m .scalars .size) (visibleOf m) (cacheOf m) (m .scalars .running) ph)
           (omega arith) (omega arith) (advance-3 G w (m .scalars .size) (visibleOf m) (cacheOf m) (m .scalars) s ph)
           (fill-step G p w m s e cm wq (e .left - 1) (kq ∙ q) hc (omega arith) mt empty missed fl))
       where
         ph : m .scalars .running .phase ≡ 3
         ph = ap (λ (x : Running). x .phase) rq
-    unheld-step k pins kq (waiting q rq one sum pos mt) = in-flight k pins 3 ph pos (go (eqb (m .scalars .running .count + 1) (uncachedCharge w)) refl)
+    unheld-step k pins kq (waiting q rq one sum pos mt) = in-flight k pins 3 ph pos
+        (go (eqb (m .scalars .running .count + 1) (uncachedCharge w)) refl)
       where
         ph : m .scalars .running .phase ≡ 4
         ph = ap (λ (x : Running). x .phase) rq
         is : Is uncached w (visibleOf m) (m .scalars .size)
         is = rw (kq ∙ q) at (kind-is w (visibleOf m) (m .scalars .size))
-        lq : isLast G w (m .scalars .size) (m .scalars .running) (visibleOf m) (cacheOf m) ≡ eqb (m .scalars .running .count + 1) (uncachedCharge w)
+        lq : isLast G w (m .scalars .size) (m .scalars .running) (visibleOf m) (cacheOf m) ≡ eqb (m .scalars .running .count + 1)
+            (uncachedCharge w)
         lq = last-4 G w (m .scalars .size) (visibleOf m) (cacheOf m) (m .scalars .running) ph
         go : (t : Bool) → eqb (m .scalars .running .count + 1) (uncachedCharge w) ≡ t
           → Agree G p (worked G w (m .scalars .size) m s (pins .input)) (takeOff G w (plainOf m e) (e .left) (pins .input))
@@ -251,7 +260,8 @@ module _ (G : Geometry) (p : List ℕ) where
       common = record { size = r .common .size; memory = r .common .memory; view = r .common .view; sane = r .common .sane;
         off = r .common .off; fits = r .common .fits; narrow = r .common .narrow;
         counted = record { held = (let h = r .common .counted .held in omega arith);
-          refills = (let h = r .common .counted .refills in omega arith); writebacks = (let h = r .common .counted .writebacks in omega arith) } };
+          refills = (let h = r .common .counted .refills in omega arith);
+              writebacks = (let h = r .common .counted .writebacks in omega arith) } };
       flight = r .flight };
     out = refl }
 

@@ -80,7 +80,8 @@ module _ (G : Geometry) (p : List ℕ) where
     related : Related G p (x .machine) (x .store) extra
     room : q .clocks + n ≤ 4294967295
 
-  tied-step : (n : ℕ) (x : Lent) (q : Reference) (pins : Pins) → Tied (suc n) x q → Together (Tied n) (clockOf G p x pins) (referenceClock G p q pins)
+  tied-step : (n : ℕ) (x : Lent) (q : Reference) (pins : Pins) → Tied (suc n) x q
+      → Together (Tied n) (clockOf G p x pins) (referenceClock G p q pins)
   tied-step n x q pins t = rw (t .plain) (go (clock-step G p (x .machine) (x .store) (t .extra) pins (t .related)))
     where
       rm : x .machine .scalars .counts .clocks + suc n ≤ 4294967295
@@ -140,7 +141,8 @@ module _ (G : Geometry) (p : List ℕ) where
       go : (same : Bool) → eqb (length lines) (length inputs) ≡ same → (long bad other : Bool)
         → cond (not same || long || bad) 6 (cond other 7 (countRow k (length lines))) ≡ 0
         → k + length (pinsOf lines inputs) ≤ 4294967295
-      go true e false false false y = rw (length-pins lines inputs (eqb-true (length lines) (length inputs) e)) (count-room k (length lines) y)
+      go true e false false false y = rw (length-pins lines inputs (eqb-true (length lines) (length inputs) e))
+          (count-room k (length lines) y)
       go true e false false true y = absurd (omega arith)
       go true e false true other y = absurd (omega arith)
       go true e true bad other y = absurd (omega arith)
@@ -165,9 +167,11 @@ module _ (G : Geometry) (p s : List ℕ) where
   first : Cache
   first = cache (zeros (G .lines)) (zeros (G .lines)) (zeros (G .lines)) (zeros (G .lines * stride G))
 
-  first-line : (l : ℕ) → l < G .lines → (lineAt G first l .full ≡ false) × (lineAt G first l .dirty ≡ false) × (lineAt G first l .block ≡ 0)
+  first-line : (l : ℕ) → l < G .lines
+      → (lineAt G first l .full ≡ false) × (lineAt G first l .dirty ≡ false) × (lineAt G first l .block ≡ 0)
   unfolding lineAt first zeros
-  first-line l h = ((rw (getD-replicate {A = ℕ} (G .lines) l 0 0 h)), (rw (getD-replicate {A = ℕ} (G .lines) l 0 0 h)), (rw (getD-replicate {A = ℕ} (G .lines) l 0 0 h)))
+  first-line l h = ((rw (getD-replicate {A = ℕ} (G .lines) l 0 0 h)), (rw (getD-replicate {A = ℕ} (G .lines) l 0 0 h)),
+      (rw (getD-replicate {A = ℕ} (G .lines) l 0 0 h)))
 
   first-wide : (l : ℕ) → l < G .lines → G .words ≤ length (lineAt G first l .words)
   unfolding lineAt first zeros
@@ -213,12 +217,14 @@ module _ (G : Geometry) (p s : List ℕ) where
     → logOf feed answer (recordEngine G p) (record { machine = resetOf G s; store = s }) cs
       ≡ logOf feed answer (referenceEngine G p) (referenceReset s) cs
   unfolding recordEngine referenceEngine
-  same-log cs e r = log-alike feed answer (recordEngine G p) (referenceEngine G p) (Tied G p) (tied-step G p) (tied-seen G p) (tied-code G p)
+  same-log cs e r = log-alike feed answer (recordEngine G p) (referenceEngine G p) (Tied G p) (tied-step G p) (tied-seen G p)
+      (tied-code G p)
     (tied-room G p) (record { machine = resetOf G s; store = s }) (referenceReset s) cs (tied-reset (reset-fits e r))
 
   pub same-codes : (cs : List Call) → geometryOk G ≡ true → resetRefusal s ≡ 0
     → codesOf feed answer (recordEngine G p) (record { machine = resetOf G s; store = s }) cs
       ≡ codesOf feed answer (referenceEngine G p) (referenceReset s) cs
   unfolding recordEngine referenceEngine
-  same-codes cs e r = codes-alike feed answer (recordEngine G p) (referenceEngine G p) (Tied G p) (tied-step G p) (tied-seen G p) (tied-code G p)
+  same-codes cs e r = codes-alike feed answer (recordEngine G p) (referenceEngine G p) (Tied G p) (tied-step G p) (tied-seen G p)
+      (tied-code G p)
     (tied-room G p) (record { machine = resetOf G s; store = s }) (referenceReset s) cs (tied-reset (reset-fits e r))

@@ -48,7 +48,8 @@ three false false false d x y h = absurd (false≢true h)
 module _ (G : Geometry) (w n : ℕ) (v : Visible) (ca : Cache) where
   pub due-clearing : Is clearing w v n → countDirty G ca ≡ 0 → dueOk G w n v ca ≡ true
   unfolding dueOk
-  due-clearing is z = rw (is .off, eq-eqb (countDirty G ca) 0 z) (fourth (takesBranch w v) (eqb (operation w) 15) (isJump w) (isLoad w && toDevice w v n) (toMemory w v n && hits G w n v ca))
+  due-clearing is z = rw (is .off, eq-eqb (countDirty G ca) 0 z)
+      (fourth (takesBranch w v) (eqb (operation w) 15) (isJump w) (isLoad w && toDevice w v n) (toMemory w v n && hits G w n v ca))
 
   pub due-device : Is device w v n → isStore w ≡ false → dueOk G w n v ca ≡ true
   unfolding dueOk

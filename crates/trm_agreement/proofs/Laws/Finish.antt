@@ -17,7 +17,8 @@ use Rattle.trm_word.specs.declared.inner.address.Place.the-variants.{Device, Me
 use Rattle.trm_word.specs.Address.{placeOf}
 use Rattle.trm_reference.specs.Geometry.{Geometry, burst, blockOf, lineOf}
 use Rattle.trm_reference.specs.Visible.{Visible, wordAt, cacheOn}
-use Rattle.trm_reference.specs.Access.{Answer, isStore, addressOf, placeOfWord, memoryIndex, target, targetBlock, targetLine, stored, loaded}
+use Rattle.trm_reference.specs.Access.{Answer, isStore, addressOf, placeOfWord, memoryIndex, target, targetBlock, targetLine, stored,
+    loaded}
 use Rattle.trm_reference.specs.Access.{answerOf}
 use Rattle.trm_reference.specs.Execute.{execute}
 use Rattle.trm_reference.specs.History.{Touch, Event, access, emptying, since, lastIn, lastDirty}
@@ -28,7 +29,8 @@ use Rattle.trm_core.specs.declared.record.Machine.{Machine}
 use Rattle.trm_core.specs.Cache.{Cache, Line, stride, lineAt, holds, view, storedTo, countDirty, allEmptied}
 use Rattle.trm_core.specs.Record.{visibleOf, cacheOf}
 use Rattle.trm_core.specs.Clock.{cacheAfter, storeAfter, finish}
-use Rattle.trm_core.proofs.Laws.Kind.{Kind, quick, second, longer, device, cached, uncached, clearing, kindOf, Is, kind-is, isClearing, isCached}
+use Rattle.trm_core.proofs.Laws.Kind.{Kind, quick, second, longer, device, cached, uncached, clearing, kindOf, Is, kind-is, isClearing,
+    isCached}
 use Rattle.trm_core.proofs.Laws.Kind.{isUncached, inMemory}
 use Rattle.trm_core.proofs.Laws.Lines.{emptyLine, storeLine, Becomes, becomes-stored}
 use Rattle.trm_core.proofs.Laws.Cache.{LineOk, Sane, bool-clash, holds-full, holds-block, empty-view, sane-update, stored-ok}
@@ -36,7 +38,8 @@ use Rattle.trm_core.proofs.Laws.Cache.{stored-view, stored-view-other}
 use Rattle.trm_core.proofs.Laws.Dirty.{emptied-at, allEmptied-sane, allEmptied-view}
 use Rattle.trm_agreement.proofs.Laws.History.{Judged, Matches, judged-access, judged-none, since-here, since-there}
 use Rattle.trm_agreement.proofs.Laws.History.{since-emptying}
-use Rattle.trm_agreement.proofs.Laws.Relation.{Extra, plainOf, Fits, Counted, Common, MatchesBut, Holding, Due, Flight, ready, Related, Agree}
+use Rattle.trm_agreement.proofs.Laws.Relation.{Extra, plainOf, Fits, Counted, Common, MatchesBut, Holding, Due, Flight, ready,
+    Related, Agree}
 
 place-in : (a n : ℕ) → 0 < n → memoryIndex (placeOf a n) < n
 unfolding memoryIndex
@@ -64,7 +67,8 @@ module _ (G : Geometry) where
     size : length (storeAfter G w n (visibleOf m) s) ≡ m .scalars .size
     memory : length (memoryAfter G w (plainOf m e)) ≡ m .scalars .size
     view : (a : ℕ) → a < m .scalars .size
-      → view G (cacheAfter G w n (visibleOf m) (cacheOf m)) (storeAfter G w n (visibleOf m) s) a ≡ getD (memoryAfter G w (plainOf m e)) a 0
+      → view G (cacheAfter G w n (visibleOf m) (cacheOf m)) (storeAfter G w n (visibleOf m) s) a ≡ getD
+          (memoryAfter G w (plainOf m e)) a 0
     sane : Sane G (cacheAfter G w n (visibleOf m) (cacheOf m)) (storeAfter G w n (visibleOf m) s)
     off : (x : ℕ) → cacheOn (execute w (visibleOf m) x) ≡ false → (l : ℕ) → l < G .lines
       → lineAt G (cacheAfter G w n (visibleOf m) (cacheOf m)) l .full ≡ false
@@ -126,7 +130,8 @@ module _ (G : Geometry) where
     toMemory-is is = rw (c .memory) is
 
     -- an LD or ST through the cache
-    cached-settled : Is cached w (visibleOf m) (m .scalars .size) → Due G cached w (m .scalars .size) (visibleOf m) (cacheOf m) (e .history)
+    cached-settled : Is cached w (visibleOf m) (m .scalars .size)
+        → Due G cached w (m .scalars .size) (visibleOf m) (cacheOf m) (e .history)
       → Settled w (m .scalars .size) m s e
     unfolding cacheAfter storeAfter memoryAfter historyAfter targetLine targetBlock
     cached-settled is du = go (isStore w) refl
@@ -170,7 +175,8 @@ module _ (G : Geometry) where
           view = rw (is .through, is .past, c .memory, is .memory, z) (c .view);
           sane = rw (is .through, is .past, z) (c .sane);
           off = λ y q. off y q;
-          matches = rw (is .through, c .memory, is .through, z) (access-matches (e .history) (cacheOf m) (blockOf G a) false (du .others) full block (du .dirty)) }
+          matches = rw (is .through, c .memory, is .through, z)
+              (access-matches (e .history) (cacheOf m) (blockOf G a) false (du .others) full block (du .dirty)) }
         go true z = record {
           size = rw (is .past) (c .size);
           memory = rw (c .memory, is .memory, z) (length-set (e .memory) a x ∙ c .memory);
@@ -183,7 +189,8 @@ module _ (G : Geometry) where
             (rw (bc .here) full) (rw (bc .here) block) (rw (bc .here))) }
 
     -- an LD or ST past the cache
-    uncached-settled : Is uncached w (visibleOf m) (m .scalars .size) → Matches G (e .history) (cacheOf m) → Settled w (m .scalars .size) m s e
+    uncached-settled : Is uncached w (visibleOf m) (m .scalars .size) → Matches G (e .history) (cacheOf m)
+        → Settled w (m .scalars .size) m s e
     unfolding cacheAfter storeAfter memoryAfter historyAfter
     uncached-settled is mt = go (isStore w) refl
       where
@@ -229,7 +236,8 @@ module _ (G : Geometry) where
       size = rw (is .past) (c .size);
       memory = rw (c .memory, is .memory) (c .memory);
       view = rw (is .through, is .off, is .past, c .memory, is .memory) (λ a h.
-        allEmptied-view G (c .fits .wpos) (cacheOf m) s a (any-line-in (m .scalars .size) (c .fits) (blockOf G a)) (c .sane) z ∙ c .view a h);
+        allEmptied-view G (c .fits .wpos) (cacheOf m) s a (any-line-in (m .scalars .size) (c .fits) (blockOf G a)) (c .sane) z
+            ∙ c .view a h);
       sane = rw (is .through, is .off, is .past) (allEmptied-sane G (c .fits .wpos) (cacheOf m) s (c .sane));
       off = λ x q l hl. rw (is .through, is .off) (rw (emptied-at G (cacheOf m) l (c .sane .wide) hl));
       matches = rw (is .through, is .off, c .memory, is .through) (λ l hl.
@@ -244,7 +252,8 @@ module _ (G : Geometry) where
       still w m s e c (is .off ∙ no-clear) (rw (is .through, no-cache, is .off, no-clear)) (rw (is .past, no-wait))
         (rw (c .memory, is .memory, no-memory)) (rw (c .memory, is .through, no-cache, is .off, no-clear)) mt
 
-    due-settled : (k : Kind) → Is k w (visibleOf m) (m .scalars .size) → Due G k w (m .scalars .size) (visibleOf m) (cacheOf m) (e .history)
+    due-settled : (k : Kind) → Is k w (visibleOf m) (m .scalars .size)
+        → Due G k w (m .scalars .size) (visibleOf m) (cacheOf m) (e .history)
       → Settled w (m .scalars .size) m s e
     due-settled quick is d = other-settled quick is refl refl refl refl d
     due-settled second is d = other-settled second is refl refl refl refl d

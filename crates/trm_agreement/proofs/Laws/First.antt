@@ -38,7 +38,8 @@ module _ (G : Geometry) (p : List ℕ) (w : ℕ) (m : Machine) (s : List ℕ) (e
   misses-hits : misses G w (plainOf m e) ≡ not (hits G w (m .scalars .size) (visibleOf m) (cacheOf m))
   unfolding hits lineFor
   misses-hits = misses-is G p w m s e cm wq
-    ∙ ap not (sym (mt _ (line-in G w (visibleOf m) (m .scalars .size) (cm .fits)) .block (targetBlock G w (visibleOf m) (m .scalars .size))))
+    ∙ ap not (sym (mt _ (line-in G w (visibleOf m) (m .scalars .size) (cm .fits)) .block
+        (targetBlock G w (visibleOf m) (m .scalars .size))))
 
   evicts-dirty : evicts G w (plainOf m e) ≡ lineFor G w (m .scalars .size) (visibleOf m) (cacheOf m) .dirty
   unfolding lineFor
@@ -104,7 +105,8 @@ module _ (G : Geometry) (p : List ℕ) (w : ℕ) (m : Machine) (s : List ℕ) (e
   -- the first clock of an access through the cache, of more than one
   first-cached : (left : ℕ) → kindOf w (visibleOf m) (m .scalars .size) ≡ cached → Is cached w (visibleOf m) (m .scalars .size)
     → chargeHere G w (m .scalars .size) (visibleOf m) (cacheOf m) ≡ suc left → 0 < left
-    → Agree G p (quiet (m .regs) (firstClock G w (m .scalars .size) (m .scalars) (visibleOf m) (cacheOf m) s)) (spend G w (plainOf m e) left)
+    → Agree G p (quiet (m .regs) (firstClock G w (m .scalars .size) (m .scalars) (visibleOf m) (cacheOf m) s))
+        (spend G w (plainOf m e) left)
   unfolding firstClock chargeHere chargeOfKind missCharge missing hits lineFor Written Filled
   first-cached left kq is chg pos = rw (is .stepped, is .past, is .off, is .through)
       (go (holds ln b) refl (ln .dirty) refl (sym (is .charge G _ _ _) ∙ chg))
@@ -162,16 +164,19 @@ module _ (G : Geometry) (p : List ℕ) (w : ℕ) (m : Machine) (s : List ℕ) (e
 
   pub first-step : (k : Kind) (left : ℕ) → kindOf w (visibleOf m) (m .scalars .size) ≡ k → Is k w (visibleOf m) (m .scalars .size)
     → chargeHere G w (m .scalars .size) (visibleOf m) (cacheOf m) ≡ suc left → 0 < left
-    → Agree G p (quiet (m .regs) (firstClock G w (m .scalars .size) (m .scalars) (visibleOf m) (cacheOf m) s)) (spend G w (plainOf m e) left)
+    → Agree G p (quiet (m .regs) (firstClock G w (m .scalars .size) (m .scalars) (visibleOf m) (cacheOf m) s))
+        (spend G w (plainOf m e) left)
   unfolding firstClock chargeHere chargeOfKind Written
   first-step quick left kq is chg pos = absurd (let h : 1 ≡ suc left = sym (is .charge G _ _ _) ∙ chg in omega arith)
   first-step second left kq is chg pos = rw (is .stepped, is .past, is .off, is .through)
     (still-move second (inPhase 5 0) left kq is refl refl
-      (last refl (due-second G w (m .scalars .size) (visibleOf m) (cacheOf m) is) (let h : 2 ≡ suc left = sym (is .charge G _ _ _) ∙ chg in omega arith) mt))
+      (last refl (due-second G w (m .scalars .size) (visibleOf m) (cacheOf m) is)
+          (let h : 2 ≡ suc left = sym (is .charge G _ _ _) ∙ chg in omega arith) mt))
   first-step longer left kq is chg pos = rw (is .stepped)
     (still-move longer (stepping w (visibleOf m) 1) left kq is refl refl
       (arithmetic refl refl (omega arith) (let h : 33 ≡ suc left = sym (is .charge G _ _ _) ∙ chg in omega arith) pos mt))
-  first-step device left kq is chg pos = rw (is .stepped, is .past, is .off, is .through) (go (isStore w) refl (sym (is .charge G _ _ _) ∙ chg))
+  first-step device left kq is chg pos = rw (is .stepped, is .past, is .off, is .through)
+      (go (isStore w) refl (sym (is .charge G _ _ _) ∙ chg))
     where
       go : (t : Bool) → isStore w ≡ t → cond t 1 2 ≡ suc left
         → Agree G p (quiet (m .regs) (moved (m .scalars) (inPhase 5 0) (cacheOf m) s 0 0)) (spend G w (plainOf m e) left)
@@ -181,9 +186,11 @@ module _ (G : Geometry) (p : List ℕ) (w : ℕ) (m : Machine) (s : List ℕ) (e
   first-step cached left kq is chg pos = first-cached left kq is chg pos
   first-step uncached left kq is chg pos = rw (is .stepped, is .past)
     (still-move uncached (inPhase 4 1) left kq is refl refl
-      (waiting refl refl (omega arith) (let h : suc left ≡ uncachedCharge w = sym chg ∙ is .charge G _ _ _ ∙ sym (is .cost) in omega arith) pos mt))
+      (waiting refl refl (omega arith)
+          (let h : suc left ≡ uncachedCharge w = sym chg ∙ is .charge G _ _ _ ∙ sym (is .cost) in omega arith) pos mt))
   first-step clearing left kq is chg pos = rw (is .stepped, is .past, is .off)
-    (clear-step G p w m s e cm wq 0 left kq (burst-pos G (cm .fits .wpos)) (let h = sym chg ∙ is .charge G _ _ _ in omega arith) some (λ j hj. absurd (omega arith)))
+    (clear-step G p w m s e cm wq 0 left kq (burst-pos G (cm .fits .wpos)) (let h = sym chg ∙ is .charge G _ _ _ in omega arith) some
+        (λ j hj. absurd (omega arith)))
     where
       some : countDirty G (cacheOf m) ≢ 0
       some z = absurd (let h : 1 + burst G * countDirty G (cacheOf m) ≡ suc left = sym (is .charge G _ _ _) ∙ chg in

@@ -25,7 +25,9 @@ unfolding storedSince lastIn lastDirty
 stored-since [] b = refl
 stored-since (a ∷ more) b = go (eqb (a .block) b) refl
   where
-    go : (t : Bool) → eqb (a .block) b ≡ t → cond t (a .store || storedSince more b) false ≡ t && cond (eqb (a .block) (a .block)) (a .store || storedSince more (a .block)) false
+    go : (t : Bool) → eqb (a .block) b ≡ t
+        → cond t (a .store || storedSince more b) false ≡ t && cond (eqb (a .block) (a .block))
+        (a .store || storedSince more (a .block)) false
     go true e = rw (eq-eqb (a .block) (a .block) refl, eqb-true (a .block) b e)
     go false e = refl
 
@@ -34,7 +36,8 @@ pub last-dirty-more : (as′ : List Touch) (a : Touch) → lastDirty (a ∷ as�
 unfolding storedSince lastDirty
 last-dirty-more as′ a = rw (eq-eqb (a .block) (a .block) refl) (ap (λ t. a .store || t) (stored-since as′ (a .block)))
 
-pub judged-access : (as′ : List Touch) (a : Touch) (ln : Line) → ln .full ≡ true → ln .block ≡ a .block → ln .dirty ≡ a .store || (lastIn as′ (a .block) && lastDirty as′) → Judged (a ∷ as′) ln
+pub judged-access : (as′ : List Touch) (a : Touch) (ln : Line) → ln .full ≡ true → ln .block ≡ a .block
+    → ln .dirty ≡ a .store || (lastIn as′ (a .block) && lastDirty as′) → Judged (a ∷ as′) ln
 unfolding holds lastIn
 judged-access as′ a ln f b d = record { block = λ c. rw (f, b); dirty = d ∙ sym (last-dirty-more as′ a) }
 

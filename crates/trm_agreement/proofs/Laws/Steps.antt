@@ -1,5 +1,6 @@
 -- The clocks that carry nothing out agree with the reference machine's, phase by phase.
--- Idea: one builder for a clock that only moves (`moved-agrees`), one for what holds in every phase (`common-move`); each phase gives them
+-- Idea: one builder for a clock that only moves (`moved-agrees`), one for what holds in every phase (`common-move`); each phase gives
+-- them
 -- its new lines, store and flight. Assumes nothing.
 use Prim.Native.Nat.{ℕ, zero, suc, _+_, _-_, _*_, _/_, _%_, _≤_, _<_}
 use mathlib.Core.Path.{_≡_, refl, sym, ap, ap₂, _∙_}
@@ -129,7 +130,8 @@ module _ (G : Geometry) where
   module _ (p : List ℕ) (w : ℕ) (m : Machine) (s : List ℕ) (e : Extra) (cm : Common G m s e) (wq : wordAt p (m .scalars .pc) ≡ w) where
     -- the history's judgement of the access, by its line
     pub misses-is : misses G w (plainOf m e)
-      ≡ not (lastIn (since G (e .history) (targetLine G w (visibleOf m) (m .scalars .size))) (targetBlock G w (visibleOf m) (m .scalars .size)))
+      ≡ not (lastIn (since G (e .history) (targetLine G w (visibleOf m) (m .scalars .size)))
+          (targetBlock G w (visibleOf m) (m .scalars .size)))
     unfolding misses refillsNow targetLine
     misses-is = rw (cm .memory)
 
@@ -151,7 +153,8 @@ module _ (G : Geometry) where
     -- write-back of an access's line
     pub write-step : (n : ℕ) → kindOf w (visibleOf m) (m .scalars .size) ≡ cached → m .scalars .running .count < burst G
       → m .scalars .running .count + suc n ≡ 1 + burst G + burst G → Matches G (e .history) (cacheOf m)
-      → holds (lineAt G (cacheOf m) (targetLine G w (visibleOf m) (m .scalars .size))) (targetBlock G w (visibleOf m) (m .scalars .size)) ≡ false
+      → holds (lineAt G (cacheOf m) (targetLine G w (visibleOf m) (m .scalars .size)))
+          (targetBlock G w (visibleOf m) (m .scalars .size)) ≡ false
       → lineAt G (cacheOf m) (targetLine G w (visibleOf m) (m .scalars .size)) .dirty ≡ true
       → Written G (lineAt G (cacheOf m) (targetLine G w (visibleOf m) (m .scalars .size))) s (m .scalars .running .count)
       → Agree G p (quiet (m .regs) (writing G false (targetLine G w (visibleOf m) (m .scalars .size)) (m .scalars .running .count)
@@ -199,7 +202,8 @@ module _ (G : Geometry) where
             (related-by p w cached _ s′ (leaving e n) wq kq
               (common-move m s e (inPhase 3 0) (emptied ls l) s′ 0 1 n cm len
                 (sane-update G wpos ls s′ l (emptyLine (lineAt G ls l)) (emptied ls l) s′ bc (last-ones .0) refl ok′ (λ a z. refl))
-                (λ a. clean-swap G wpos ls s′ l (emptyLine (lineAt G ls l)) (emptied ls l) bc lin (last-ones .0) (rw (cl .here)) ok′ refl a
+                (λ a. clean-swap G wpos ls s′ l (emptyLine (lineAt G ls l)) (emptied ls l) bc lin (last-ones .0)
+                    (rw (cl .here)) ok′ refl a
                   ∙ last-ones .1 a)
                 on (omega arith) (omega arith))
               (refill refl refl tpos (omega (arith, full))
@@ -289,11 +293,13 @@ module _ (G : Geometry) where
             last-ones : Sane G ls s′ × ((a : ℕ) → view G ls s′ a ≡ view G (cacheOf m) s a)
             last-ones = wrote-last (cacheOf m) s l c wpos (cm .sane) lin d hc full wr
             next : (t : Bool) → eqb (countDirty G ls) 0 ≡ t
-              → Agree G p (quiet (m .regs) (moved (m .scalars) (cond t (inPhase 5 0) (inPhase 2 0)) ls s′ 0 1)) (spend G w (plainOf m e) n)
+              → Agree G p (quiet (m .regs) (moved (m .scalars) (cond t (inPhase 5 0) (inPhase 2 0)) ls s′ 0 1))
+                  (spend G w (plainOf m e) n)
             next true z = moved-agrees p w m s e (inPhase 5 0) ls s′ 0 1 n (clearing-refill n is) (clearing-writeback n is ∙ (rw over))
               (related-by p w clearing _ s′ (leaving e n) wq kq
                 (common-move m s e (inPhase 5 0) ls s′ 0 1 n cm len (last-ones .0) (last-ones .1) on (omega arith) (omega arith))
-                (last refl (due-clearing G w (m .scalars .size) (visibleOf m) ls is (eqb-true (countDirty G ls) 0 z)) (rest′ ∙ (rw (eqb-true (countDirty G ls) 0 z) (omega arith))) (eqb-true (countDirty G ls) 0 z)))
+                (last refl (due-clearing G w (m .scalars .size) (visibleOf m) ls is (eqb-true (countDirty G ls) 0 z))
+                    (rest′ ∙ (rw (eqb-true (countDirty G ls) 0 z) (omega arith))) (eqb-true (countDirty G ls) 0 z)))
             next false z = moved-agrees p w m s e (inPhase 2 0) ls s′ 0 1 n (clearing-refill n is) (clearing-writeback n is ∙ (rw over))
               (related-by p w clearing _ s′ (leaving e n) wq kq
                 (common-move m s e (inPhase 2 0) ls s′ 0 1 n cm len (last-ones .0) (last-ones .1) on (omega arith) (omega arith))
@@ -320,10 +326,13 @@ module _ (G : Geometry) where
       → m .scalars .running .count + suc n ≡ 1 + burst G
       → MatchesBut G (targetLine G w (visibleOf m) (m .scalars .size)) (e .history) (cacheOf m)
       → lineAt G (cacheOf m) (targetLine G w (visibleOf m) (m .scalars .size)) .full ≡ false
-      → lastIn (since G (e .history) (targetLine G w (visibleOf m) (m .scalars .size))) (targetBlock G w (visibleOf m) (m .scalars .size)) ≡ false
-      → Filled G (lineAt G (cacheOf m) (targetLine G w (visibleOf m) (m .scalars .size))) s (targetBlock G w (visibleOf m) (m .scalars .size))
+      → lastIn (since G (e .history) (targetLine G w (visibleOf m) (m .scalars .size)))
+          (targetBlock G w (visibleOf m) (m .scalars .size)) ≡ false
+      → Filled G (lineAt G (cacheOf m) (targetLine G w (visibleOf m) (m .scalars .size))) s
+          (targetBlock G w (visibleOf m) (m .scalars .size))
           (m .scalars .running .count)
-      → Agree G p (quiet (m .regs) (filling G (targetBlock G w (visibleOf m) (m .scalars .size)) (targetLine G w (visibleOf m) (m .scalars .size))
+      → Agree G p (quiet (m .regs)
+          (filling G (targetBlock G w (visibleOf m) (m .scalars .size)) (targetLine G w (visibleOf m) (m .scalars .size))
           (m .scalars .running .count) (m .scalars) (cacheOf m) s)) (spend G w (plainOf m e) n)
     unfolding filling hits lineFor
     fill-step n kq hc hn mt empty missed fl = go (eqb (c + 1) (burst G)) refl
@@ -392,7 +401,8 @@ module _ (G : Geometry) where
                 home′ = unfold targetLine in refl
                 fits′ : b * G .words + G .words ≤ length s
                 fits′ = unfold targetBlock in (rw (cm .size)
-                  (cm .fits .fits (target w (visibleOf m) (m .scalars .size)) (target-in G w (visibleOf m) (m .scalars .size) (cm .fits .npos))))
+                  (cm .fits .fits (target w (visibleOf m) (m .scalars .size))
+                      (target-in G w (visibleOf m) (m .scalars .size) (cm .fits .npos))))
         go false q = moved-agrees p w m s e (inPhase 3 (c + 1)) ls s 0 0 n
             (cached-refill n is ∙ (rw (ms, ne-eqb n 1 (omega (arith, short))))) no-write
             (related-by p w cached _ s (leaving e n) wq kq

@@ -15,7 +15,8 @@ use native.Mathlib.Decide.{ℕ-discrete}
 use borrow.Author.Tests.{eqb-true, eqb-false}
 use Rattle.trm_reference.specs.Geometry.{Geometry, blockOf, lineOf}
 use Rattle.trm_reference.specs.History.{howMany}
-use Rattle.trm_core.specs.Cache.{Cache, Line, lineAt, holds, lineView, view, emptied, lowest, countDirty, firstDirty, emptyTo, allEmptied}
+use Rattle.trm_core.specs.Cache.{Cache, Line, lineAt, holds, lineView, view, emptied, lowest, countDirty, firstDirty, emptyTo,
+    allEmptied}
 use Rattle.trm_core.specs.Observe.{below, copyOf}
 use Rattle.trm_core.proofs.Laws.Lines.{emptyLine, Wide, Becomes, becomes-empty}
 use Rattle.trm_core.proofs.Laws.Cache.{LineOk, Sane, bool-clash, clean-view, emptied-ok}
@@ -42,14 +43,16 @@ unfolding howMany lowest
 lowest-is zero f q = absurd (q refl)
 lowest-is (suc n) f q = go (f n) refl (eqb (howMany n f) 0) refl q (lowest-is n f)
   where
-    go : (b : Bool) → f n ≡ b → (t : Bool) → eqb (howMany n f) 0 ≡ t → howMany n f + cond b 1 0 ≢ 0 → (howMany n f ≢ 0 → (lowest n f < n) × (f (lowest n f) ≡ true))
+    go : (b : Bool) → f n ≡ b → (t : Bool) → eqb (howMany n f) 0 ≡ t → howMany n f + cond b 1 0 ≢ 0
+        → (howMany n f ≢ 0 → (lowest n f < n) × (f (lowest n f) ≡ true))
       → (cond t (cond b n 0) (lowest n f) < suc n) × (f (cond t (cond b n 0) (lowest n f)) ≡ true)
     go true e true z y ih = (omega arith, e)
     go false e true z y ih = absurd (y (let x = eqb-true (howMany n f) 0 z in omega arith))
     go b e false z y ih = let w = ih (eqb-false (howMany n f) 0 z) in (omega (arith, w .0), w .1)
 
 -- one fewer where one test changes
-pub howMany-less : (n : ℕ) (f g : ℕ → Bool) (j : ℕ) → j < n → f j ≡ true → g j ≡ false → ((i : ℕ) → i < n → i ≢ j → g i ≡ f i) → howMany n f ≡ suc (howMany n g)
+pub howMany-less : (n : ℕ) (f g : ℕ → Bool) (j : ℕ) → j < n → f j ≡ true → g j ≡ false → ((i : ℕ) → i < n → i ≢ j → g i ≡ f i)
+    → howMany n f ≡ suc (howMany n g)
 unfolding howMany
 howMany-less zero f g j h a b same = absurd (omega arith)
 howMany-less (suc n) f g j h a b same = go (ℕ-discrete j n) (λ hj. howMany-less n f g j hj a b (λ i hi z. same i (omega arith) z))
@@ -74,11 +77,13 @@ pub none-dirty : (G : Geometry) (ls : Cache) → countDirty G ls ≡ 0 → (l : 
 unfolding countDirty
 none-dirty G ls = howMany-none (G .lines) (λ l. lineAt G ls l .dirty)
 
-pub first-dirty : (G : Geometry) (ls : Cache) → countDirty G ls ≢ 0 → (firstDirty G ls < G .lines) × (lineAt G ls (firstDirty G ls) .dirty ≡ true)
+pub first-dirty : (G : Geometry) (ls : Cache) → countDirty G ls ≢ 0
+    → (firstDirty G ls < G .lines) × (lineAt G ls (firstDirty G ls) .dirty ≡ true)
 unfolding countDirty firstDirty
 first-dirty G ls = lowest-is (G .lines) (λ l. lineAt G ls l .dirty)
 
-pub clean-one : (G : Geometry) (ls : Cache) (l : ℕ) (ln : Line) (ls′ : Cache) → Becomes G ls l ln ls′ → l < G .lines → lineAt G ls l .dirty ≡ true → ln .dirty ≡ false → countDirty G ls ≡ suc (countDirty G ls′)
+pub clean-one : (G : Geometry) (ls : Cache) (l : ℕ) (ln : Line) (ls′ : Cache) → Becomes G ls l ln ls′ → l < G .lines
+    → lineAt G ls l .dirty ≡ true → ln .dirty ≡ false → countDirty G ls ≡ suc (countDirty G ls′)
 unfolding countDirty
 clean-one G ls l ln ls′ bc h d e = howMany-less (G .lines) (λ k. lineAt G ls k .dirty) (λ k. lineAt G ls′ k .dirty) l h d
   (rw (bc .here) e) (λ k hk n. rw (bc .there k n))
@@ -92,16 +97,19 @@ emptyTo-wide G ls (suc n) h wd = becomes-empty G (emptyTo n ls) n (emptyTo-wide 
 emptyTo-other : (G : Geometry) (ls : Cache) (n l : ℕ) → n ≤ G .lines → Wide G ls → n ≤ l → lineAt G (emptyTo n ls) l ≡ lineAt G ls l
 unfolding emptyTo
 emptyTo-other G ls zero l h wd g = refl
-emptyTo-other G ls (suc n) l h wd g = becomes-empty G (emptyTo n ls) n (emptyTo-wide G ls n (omega arith) wd) h .there l (omega arith) ∙ emptyTo-other G ls n l (omega arith) wd (omega arith)
+emptyTo-other G ls (suc n) l h wd g = becomes-empty G (emptyTo n ls) n (emptyTo-wide G ls n (omega arith) wd) h .there l (omega arith)
+    ∙ emptyTo-other G ls n l (omega arith) wd (omega arith)
 
-emptyTo-at : (G : Geometry) (ls : Cache) (n l : ℕ) → n ≤ G .lines → Wide G ls → l < n → lineAt G (emptyTo n ls) l ≡ emptyLine (lineAt G ls l)
+emptyTo-at : (G : Geometry) (ls : Cache) (n l : ℕ) → n ≤ G .lines → Wide G ls → l < n
+    → lineAt G (emptyTo n ls) l ≡ emptyLine (lineAt G ls l)
 unfolding emptyTo
 emptyTo-at G ls zero l h wd g = absurd (omega arith)
 emptyTo-at G ls (suc n) l h wd g = go (ℕ-discrete l n) (λ hl. emptyTo-at G ls n l (omega arith) wd hl)
   where
     bc : Becomes G (emptyTo n ls) n (emptyLine (lineAt G (emptyTo n ls) n)) (emptied (emptyTo n ls) n)
     bc = becomes-empty G (emptyTo n ls) n (emptyTo-wide G ls n (omega arith) wd) h
-    go : Dec (l ≡ n) → (l < n → lineAt G (emptyTo n ls) l ≡ emptyLine (lineAt G ls l)) → lineAt G (emptied (emptyTo n ls) n) l ≡ emptyLine (lineAt G ls l)
+    go : Dec (l ≡ n) → (l < n → lineAt G (emptyTo n ls) l ≡ emptyLine (lineAt G ls l))
+        → lineAt G (emptied (emptyTo n ls) n) l ≡ emptyLine (lineAt G ls l)
     go (yes q) ih = rw q (bc .here ∙ ap emptyLine (emptyTo-other G ls n n (omega arith) wd (omega arith)))
     go (no q) ih = bc .there l q ∙ ih (omega arith)
 
@@ -114,9 +122,11 @@ module _ (G : Geometry) (wpos : 0 < G .words) where
   allEmptied-sane ls s sn = record { wide = (unfold allEmptied in emptyTo-wide G ls (G .lines) (omega arith) (sn .wide));
     each = λ l h. rw (emptied-at G ls l (sn .wide) h) (emptied-ok G wpos s l (lineAt G ls l) (sn .each l h .wide)) }
 
-  pub allEmptied-view : (ls : Cache) (s : List ℕ) (a : ℕ) → lineOf G (blockOf G a) < G .lines → Sane G ls s → countDirty G ls ≡ 0 → view G (allEmptied G ls) s a ≡ view G ls s a
+  pub allEmptied-view : (ls : Cache) (s : List ℕ) (a : ℕ) → lineOf G (blockOf G a) < G .lines → Sane G ls s → countDirty G ls ≡ 0
+      → view G (allEmptied G ls) s a ≡ view G ls s a
   unfolding view
-  allEmptied-view ls s a h sn z = clean-view G wpos s l (lineAt G (allEmptied G ls) l) a (allEmptied-sane ls s sn .each l h) (rw (emptied-at G ls l (sn .wide) h))
+  allEmptied-view ls s a h sn z = clean-view G wpos s l (lineAt G (allEmptied G ls) l) a (allEmptied-sane ls s sn .each l h)
+      (rw (emptied-at G ls l (sn .wide) h))
       ∙ sym (clean-view G wpos s l (lineAt G ls l) a (sn .each l h) (none-dirty G ls z l h))
     where
       l : ℕ
@@ -134,7 +144,8 @@ getD-below zero f i h = absurd (omega arith)
 getD-below (suc n) f zero h = refl
 getD-below (suc n) f (suc i) h = getD-below n (λ j. f (suc j)) i (le-of-suc-le-suc h)
 
-pub copy-is : (G : Geometry) (ls : Cache) (s mem : List ℕ) → length s ≡ length mem → ((a : ℕ) → a < length s → view G ls s a ≡ getD mem a 0) → copyOf G ls s ≡ mem
+pub copy-is : (G : Geometry) (ls : Cache) (s mem : List ℕ) → length s ≡ length mem
+    → ((a : ℕ) → a < length s → view G ls s a ≡ getD mem a 0) → copyOf G ls s ≡ mem
 unfolding copyOf
 copy-is G ls s mem len v = ext-getD 0 (below (length s) (view G ls s)) mem (length-below (length s) (view G ls s) ∙ len)
     (λ i h. getD-below (length s) (view G ls s) i (rw length-below at h) ∙ v i (rw length-below at h))

@@ -184,18 +184,24 @@ kind-is w v n = by (operation-is (operation w) (mod-lt (w / 2 ^ 14) {m = 2 ^ 4} 
       charge = λ G a b d. rw (o, p) })
     control : operation w ≡ 11 → (ten : Bool) → isSet (bit 10 w) ≡ ten → (on : Bool) → cacheOn v ≡ on → (keeps : Bool)
       → isSet (bit 3 w) ≡ keeps → Is (kindOf w v n) w v n
-    control o true p on q keeps r = rw (o, p) (record { stepped = rw o; memory = rw o; device = rw o; through = rw o; past = rw o; off = rw (o, p); twice = rw (o, p);
+    control o true p on q keeps r = rw (o, p)
+        (record { stepped = rw o; memory = rw o; device = rw o; through = rw o; past = rw o; off = rw (o, p); twice = rw (o, p);
       on = tt; cost = tt; charge = λ G a b d. rw (o, p) })
-    control o false p false q keeps r = rw (o, p, q) (record { stepped = rw o; memory = rw o; device = rw o; through = rw o; past = rw o; off = rw (o, p, q); twice = rw (o, p);
+    control o false p false q keeps r = rw (o, p, q)
+        (record { stepped = rw o; memory = rw o; device = rw o; through = rw o; past = rw o; off = rw (o, p, q); twice = rw (o, p);
       on = tt; cost = tt; charge = λ G a b d. rw (o, p, q) })
-    control o false p true q true r = rw (o, p, q, r) (record { stepped = rw o; memory = rw o; device = rw o; through = rw o; past = rw o; off = rw (o, p, q, r); twice = rw (o, p);
+    control o false p true q true r = rw (o, p, q, r)
+        (record { stepped = rw o; memory = rw o; device = rw o; through = rw o; past = rw o; off = rw (o, p, q, r); twice = rw (o, p);
       on = tt; cost = tt; charge = λ G a b d. rw (o, p, q, r) })
-    control o false p true q false r = rw (o, p, q, r) (record { stepped = rw o; memory = rw o; device = rw o; through = rw o; past = rw o; off = rw (o, p, q, r); twice = rw (o, p);
+    control o false p true q false r = rw (o, p, q, r)
+        (record { stepped = rw o; memory = rw o; device = rw o; through = rw o; past = rw o; off = rw (o, p, q, r); twice = rw (o, p);
       on = q; cost = tt; charge = λ G a b d. rw (o, p, q, r) })
     branch : operation w ≡ 14 → (taken : Bool) → branchTaken w v ≡ taken → Is (kindOf w v n) w v n
-    branch o true p = rw (o, p) (record { stepped = rw o; memory = rw o; device = rw o; through = rw o; past = rw o; off = rw o; twice = rw (o, p);
+    branch o true p = rw (o, p)
+        (record { stepped = rw o; memory = rw o; device = rw o; through = rw o; past = rw o; off = rw o; twice = rw (o, p);
       on = tt; cost = tt; charge = λ G a b d. rw (o, p) })
-    branch o false p = rw (o, p) (record { stepped = rw o; memory = rw o; device = rw o; through = rw o; past = rw o; off = rw o; twice = rw (o, p);
+    branch o false p = rw (o, p)
+        (record { stepped = rw o; memory = rw o; device = rw o; through = rw o; past = rw o; off = rw o; twice = rw (o, p);
       on = tt; cost = tt; charge = λ G a b d. rw (o, p) })
     by : Operation (operation w) → Is (kindOf w v n) w v n
     by (is8 o) = rw o (record { stepped = rw o; memory = rw o; device = rw o; through = rw o; past = rw o; off = rw o; twice = rw o;

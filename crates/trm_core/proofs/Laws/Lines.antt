@@ -72,7 +72,8 @@ module _ (st : ℕ) (ws : List ℕ) where
         let times : suc k * st ≤ l * st = mul-le-mul-right st low in
         let far : k * st + st ≤ l * st = omega (arith, suc-mul k st) in
         let at : l * st + i ≡ k * st + (l * st + i - k * st) = omega arith in
-        rw at (ap (take st) (drop-set-add (k * st) ws (l * st + i - k * st) x) ∙ take-set-le st (drop (k * st) ws) (l * st + i - k * st) x (omega arith))
+        rw at (ap (take st) (drop-set-add (k * st) ws (l * st + i - k * st) x)
+            ∙ take-set-le st (drop (k * st) ws) (l * st + i - k * st) x (omega arith))
       go false e =
         let high : suc l ≤ k = leb-false k l e in
         let times : suc l * st ≤ k * st = mul-le-mul-right st high in
@@ -135,16 +136,20 @@ module _ (G : Geometry) (ca : Cache) (l : ℕ) (wd : Wide G ca) (lin : l < G .li
     here = rw (getD-set-same (ca .dirty) l 1 0 (le-trans lin (wd .dirty)), words-here (stride G) (ca .words) l i x h);
     there = λ k n. rw (getD-set-other (ca .dirty) l k 1 0 n, words-there (stride G) (ca .words) l i x k h n) }
 
-  pub becomes-fill : (s : List ℕ) (b c : ℕ) → c < burst G → G .words ≤ stride G → Becomes G ca l (fillLine G (lineAt G ca l) s b c) (fillWord G ca l s b c)
+  pub becomes-fill : (s : List ℕ) (b c : ℕ) → c < burst G → G .words ≤ stride G
+      → Becomes G ca l (fillLine G (lineAt G ca l) s b c) (fillWord G ca l s b c)
   unfolding fillLine fillWord burst
   becomes-fill s b c h g = go (leb (G .waits) c) refl
     where
       x : ℕ
       x = getD s (b * G .words + (c - G .waits)) 0
-      go : (t : Bool) → leb (G .waits) c ≡ t → Becomes G ca l (cond t (lineWith (lineAt G ca l) (c - G .waits) x) (lineAt G ca l)) (cond t (withWord G ca l (c - G .waits) x) ca)
+      go : (t : Bool) → leb (G .waits) c ≡ t
+          → Becomes G ca l (cond t (lineWith (lineAt G ca l) (c - G .waits) x) (lineAt G ca l))
+          (cond t (withWord G ca l (c - G .waits) x) ca)
       go true e = becomes-with (c - G .waits) x (omega (arith, leb-true (G .waits) c e))
       go false e = becomes-same
 
 -- one after the other
-pub becomes-then : (G : Geometry) (ca ca′ ca″ : Cache) (l : ℕ) (x y : Line) → Becomes G ca l x ca′ → Becomes G ca′ l y ca″ → Becomes G ca l y ca″
+pub becomes-then : (G : Geometry) (ca ca′ ca″ : Cache) (l : ℕ) (x y : Line) → Becomes G ca l x ca′ → Becomes G ca′ l y ca″
+    → Becomes G ca l y ca″
 becomes-then G ca ca′ ca″ l x y a b = record { wide = b .wide; here = b .here; there = λ k n. b .there k n ∙ a .there k n }

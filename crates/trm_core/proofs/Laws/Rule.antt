@@ -5,7 +5,7 @@
 use Prim.Native.Nat.{ℕ, zero, suc, _+_, _*_, _^_, _≤_, _<_}
 use mathlib.Core.Path.{_≡_, refl, sym, ap, _∙_}
 use mathlib.Core.Logic.{_≢_}
-use mathlib.Core.Bool.{Bool, true, false, cond, not, _&&_, _||_}
+use mathlib.Core.Bool.{Bool, true, false, cond, not, _&&_}
 use mathlib.Core.List.{List}
 use lib.ListN.{getD}
 use lib.Dec.{eqb, leb, ltb}
@@ -21,14 +21,14 @@ use Rattle.trm_reference.proofs.Laws.Execute.{Narrow}
 use Rattle.trm_core.specs.declared.record.Counts.{Counts}
 use Rattle.trm_core.specs.declared.record.Running.{Running}
 use Rattle.trm_core.specs.declared.record.Machine.{Machine}
-use Rattle.trm_core.specs.Cache.{Cache, Line, stride, lineAt, countDirty}
+use Rattle.trm_core.specs.Cache.{Cache, Line, lineAt, countDirty}
 use Rattle.trm_core.specs.Record.{visibleOf, cacheOf, productAt, remainderAt, quotientAt}
 use Rattle.trm_core.specs.Clock.{lineFor, hits}
-use Rattle.trm_core.specs.Rule.{widthsOk, countsOk, registersOk, arithmeticOk, writebackOk, refillOk, waitOk, dueOk, phaseOk}
-use Rattle.trm_core.specs.Rule.{lineOk, marksOk, allBelow, linesOk, recordOk}
+use Rattle.trm_core.specs.Rule.{widthsOk, countsOk, registersOk, arithmeticOk, writebackOk, refillOk, waitOk, dueOk, phaseOk, lineOk}
+use Rattle.trm_core.specs.Rule.{marksOk, allBelow, linesOk, recordOk}
 use Rattle.trm_core.specs.Claims.{Shaped}
-use Rattle.trm_core.proofs.Laws.Kind.{Kind, quick, second, longer, device, cached, uncached, clearing, kindOf, Is, kind-is}
-use Rattle.trm_core.proofs.Laws.Kind.{isLonger, isCached, isUncached, isClearing, inMemory}
+use Rattle.trm_core.proofs.Laws.Kind.{Kind, quick, second, longer, device, cached, uncached, clearing, kindOf, Is, kind-is, isLonger}
+use Rattle.trm_core.proofs.Laws.Kind.{isCached, isUncached, isClearing, inMemory}
 use Rattle.trm_core.proofs.Laws.Lines.{Wide}
 use Rattle.trm_core.proofs.Laws.Cache.{bool-clash}
 
@@ -79,12 +79,12 @@ _&t_ p q = rw (p, q)
 clash : {A : Type 0} → false ≡ true → A
 clash e = bool-clash false e refl
 
-both : {X : Type 0} (a b : Bool) → (a ≡ true → b ≡ true → X) → a && b ≡ true → X
+pub both : {X : Type 0} (a b : Bool) → (a ≡ true → b ≡ true → X) → a && b ≡ true → X
 both true true f t = f refl refl
 both true false f t = clash t
 both false b f t = clash t
 
-all3 : {X : Type 0} (a b c : Bool) → (a ≡ true → b ≡ true → c ≡ true → X) → a && b && c ≡ true → X
+pub all3 : {X : Type 0} (a b c : Bool) → (a ≡ true → b ≡ true → c ≡ true → X) → a && b && c ≡ true → X
 all3 a b c f = both (a && b) c (λ q r. both a b (λ p q. f p q r) q)
 
 all4 : {X : Type 0} (a b c d : Bool) → (a ≡ true → b ≡ true → c ≡ true → d ≡ true → X) → a && b && c && d ≡ true → X
@@ -195,7 +195,8 @@ widths-from : (v : Visible) → widthsOk v ≡ true → Narrow v
 unfolding widthsOk
 widths-from v = all3 (ltb (v .pc) 4096) (ltb (v .n) 2 && ltb (v .z) 2 && ltb (v .c) 2 && ltb (v .v) 2) (ltb (v .status) 16) (λ p f s.
     all4 (ltb (v .n) 2) (ltb (v .z) 2) (ltb (v .c) 2) (ltb (v .v) 2) (λ a b c d. record { pc = ltb-true (v .pc) 4096 p;
-      n = ltb-true (v .n) 2 a; z = ltb-true (v .z) 2 b; c = ltb-true (v .c) 2 c; v = ltb-true (v .v) 2 d; status = ltb-true (v .status) 16 s }) f)
+      n = ltb-true (v .n) 2 a; z = ltb-true (v .z) 2 b; c = ltb-true (v .c) 2 c; v = ltb-true (v .v) 2 d;
+      status = ltb-true (v .status) 16 s }) f)
 
 counts-from : (k : Counts) → countsOk k ≡ true → CountsFit k
 unfolding countsOk
@@ -206,7 +207,8 @@ counts-from k = all4 (ltb (k .clocks) (2 ^ 32)) (leb (k .held) (k .clocks)) (leb
 registers-from : (w : ℕ) (r : Running) (v : Visible) → registersOk w r v ≡ true → Registers w r v
 unfolding registersOk
 registers-from w r v = all3 (eqb (r .product) p) (eqb (r .remainder) m) (eqb (r .quotient) q)
-    (λ a b c. record { product = eqb-true (r .product) p a; remainder = eqb-true (r .remainder) m b; quotient = eqb-true (r .quotient) q c })
+    (λ a b c. record { product = eqb-true (r .product) p a; remainder = eqb-true (r .remainder) m b;
+      quotient = eqb-true (r .quotient) q c })
   where
     p : ℕ
     p = cond (eqb (r .phase) 1) (productAt w v (r .count)) 0
@@ -217,20 +219,20 @@ registers-from w r v = all3 (eqb (r .product) p) (eqb (r .remainder) m) (eqb (r 
 
 -- the kind by one test
 longer-is : (k : Kind) → isLonger k ≡ true → k ≡ longer
-longer-is k = elim k as (λ j. isLonger j ≡ true → j ≡ longer) [ quick ↦ clash | second ↦ clash | longer ↦ λ _. refl | device ↦ clash | cached ↦ clash
-  | uncached ↦ clash | clearing ↦ clash ]
+longer-is k = elim k as (λ j. isLonger j ≡ true → j ≡ longer)
+  [ quick ↦ clash | second ↦ clash | longer ↦ λ _. refl | device ↦ clash | cached ↦ clash | uncached ↦ clash | clearing ↦ clash ]
 
-cached-is : (k : Kind) → isCached k ≡ true → k ≡ cached
-cached-is k = elim k as (λ j. isCached j ≡ true → j ≡ cached) [ quick ↦ clash | second ↦ clash | longer ↦ clash | device ↦ clash | cached ↦ λ _. refl
-  | uncached ↦ clash | clearing ↦ clash ]
+pub cached-is : (k : Kind) → isCached k ≡ true → k ≡ cached
+cached-is k = elim k as (λ j. isCached j ≡ true → j ≡ cached)
+  [ quick ↦ clash | second ↦ clash | longer ↦ clash | device ↦ clash | cached ↦ λ _. refl | uncached ↦ clash | clearing ↦ clash ]
 
 uncached-is : (k : Kind) → isUncached k ≡ true → k ≡ uncached
-uncached-is k = elim k as (λ j. isUncached j ≡ true → j ≡ uncached) [ quick ↦ clash | second ↦ clash | longer ↦ clash | device ↦ clash | cached ↦ clash
-  | uncached ↦ λ _. refl | clearing ↦ clash ]
+uncached-is k = elim k as (λ j. isUncached j ≡ true → j ≡ uncached)
+  [ quick ↦ clash | second ↦ clash | longer ↦ clash | device ↦ clash | cached ↦ clash | uncached ↦ λ _. refl | clearing ↦ clash ]
 
 clearing-is : (k : Kind) → isClearing k ≡ true → k ≡ clearing
-clearing-is k = elim k as (λ j. isClearing j ≡ true → j ≡ clearing) [ quick ↦ clash | second ↦ clash | longer ↦ clash | device ↦ clash | cached ↦ clash
-  | uncached ↦ clash | clearing ↦ λ _. refl ]
+clearing-is k = elim k as (λ j. isClearing j ≡ true → j ≡ clearing)
+  [ quick ↦ clash | second ↦ clash | longer ↦ clash | device ↦ clash | cached ↦ clash | uncached ↦ clash | clearing ↦ λ _. refl ]
 
 -- a line can be full only with the cache on, so an access in phase 2 goes through the cache
 write-from : (G : Geometry) (w n : ℕ) (k : Kind) (r : Running) (v : Visible) (ca : Cache) → Is k w v n

@@ -1,0 +1,69 @@
+-- What the numbers of the calls say: none is 5; and a list of calls is a list of clocks.
+-- Idea: the reference machine's numbers are those of rows 3, 6, 7 and 8; the clocks of two lists of inputs follow each other.
+-- Assumes nothing.
+use Prim.Native.Nat.{ℕ, _+_}
+use mathlib.Core.Path.{_≡_, refl, sym, ap, _∙_}
+use mathlib.Core.Logic.{_≢_}
+use mathlib.Core.Bool.{Bool, true, false, cond, not, _||_}
+use mathlib.Core.List.{List, [], _∷_, _++_}
+use lib.ListN.{length}
+use lib.Dec.{eqb, ltb}
+use native.Mathlib.Omega.{arith}
+use Rattle.trm_reference.specs.Geometry.{Geometry}
+use Rattle.trm_reference.specs.Trace.{Pins, After, clocks, endOf}
+use Rattle.trm_reference.specs.Reference.{Reference, referenceClock, referenceReset}
+use Rattle.trm_core.specs.Refusals.{programOk, countRow, clockRows, linesRefused, runRows}
+use Rattle.trm_agreement.specs.Log.{Engine, clocksOf, codesOf, fedOf, stateOf}
+use Rattle.trm_agreement.specs.Calls.{Call, clockCall, runCall, feed, answer, ownRows, referenceCode, referenceEngine}
+use Rattle.trm_agreement.specs.Claims.{All, NeverFive, CallsAreClocks}
+use Rattle.trm_agreement.proofs.Laws.Demand.{same-codes}
+
+-- the reference machine gives 0, 3, 6, 7 and 8 alone
+not-five-cond : (t : Bool) (a b : ℕ) → a ≢ 5 → b ≢ 5 → cond t a b ≢ 5
+not-five-cond true a b p q = p
+not-five-cond false a b p q = q
+
+count-row : (k n : ℕ) → countRow k n ≢ 5
+unfolding countRow
+count-row k n = not-five-cond (ltb 4294967295 (k + n)) 8 0 (λ z. absurd (omega arith)) (λ z. absurd (omega arith))
+
+own-rows : (G : Geometry) (p : List ℕ) (k : ℕ) (c : Call) → ownRows G p k c ≢ 5
+unfolding ownRows clockRows runRows
+own-rows G p k (clockCall line input) = not-five-cond (ltb 7 line) 6 (countRow k 1) (λ z. absurd (omega arith)) (count-row k 1)
+own-rows G p k (runCall lines inputs bytes words) = not-five-cond (linesRefused lines inputs) 6 _ (λ z. absurd (omega arith))
+    (not-five-cond (not (eqb (length bytes) (length lines)) || not (eqb (length words) (length lines))) 7 (countRow k (length lines))
+      (λ z. absurd (omega arith)) (count-row k (length lines)))
+
+codes-not-five : (G : Geometry) (p : List ℕ) (q : Reference) (cs : List Call)
+    → All (λ code. code ≢ 5) (codesOf feed answer (referenceEngine G p) q cs)
+unfolding codesOf All referenceEngine referenceCode
+codes-not-five G p q [] = tt
+codes-not-five G p q (c ∷ cs) =
+    (not-five-cond (not (programOk p)) 3 (ownRows G p (q .clocks) c) (λ z. absurd (omega arith)) (own-rows G p (q .clocks) c),
+      codes-not-five G p (endOf q (clocksOf feed answer (referenceEngine G p) q c)) cs)
+
+pub never-five : NeverFive
+never-five G p s cs e r = rw (same-codes G p s cs e r) (codes-not-five G p (referenceReset s) cs)
+
+-- the clocks of two lists of inputs, one after the other
+clocks-append : {S I O : Type 0} (step : S → I → After S O) (x : S) (is js : List I)
+    → endOf x (clocks step x (is ++ js)) ≡ endOf (endOf x (clocks step x is)) (clocks step (endOf x (clocks step x is)) js)
+unfolding clocks endOf
+clocks-append step x [] js = refl
+clocks-append step x (i ∷ is) js = clocks-append step (step x i .state) is js
+
+pub calls-are-clocks : CallsAreClocks
+unfolding stateOf fedOf clocks endOf clocksOf referenceEngine
+calls-are-clocks G p q [] = refl
+calls-are-clocks G p q (c ∷ cs) =
+    calls-are-clocks G p (after (eqb (referenceCode G p q c) 0)) cs
+    ∙ ap (λ y. endOf y (clocks (referenceClock G p) y rest)) (sym (here (eqb (referenceCode G p q c) 0)))
+    ∙ sym (clocks-append (referenceClock G p) q (cond (eqb (referenceCode G p q c) 0) (feed c) []) rest)
+  where
+    after : Bool → Reference
+    after t = endOf q (cond t (clocks (referenceClock G p) q (feed c)) [])
+    rest : List Pins
+    rest = fedOf feed answer (referenceEngine G p) (after (eqb (referenceCode G p q c) 0)) cs
+    here : (t : Bool) → endOf q (clocks (referenceClock G p) q (cond t (feed c) [])) ≡ after t
+    here true = refl
+    here false = refl
