@@ -11,7 +11,7 @@ use Rattle.trm_word.specs.Fields.{operation}
 use Rattle.trm_reference.specs.Geometry.{Geometry, burst, lineOf}
 use Rattle.trm_reference.specs.Visible.{Visible, cacheOn, wordAt}
 use Rattle.trm_reference.specs.Access.{isLoad, toMemory, toDevice}
-use Rattle.trm_reference.specs.Charge.{isStepped, isJump, takesBranch, throughCache, pastCache, turnsCacheOff, uncachedCharge}
+use Rattle.trm_reference.specs.Charge.{isStepped, isJump, takesBranch, throughCache, pastCache, turnsCacheOff}
 use Rattle.trm_core.specs.declared.record.Counts.{Counts}
 use Rattle.trm_core.specs.declared.record.Running.{Running}
 use Rattle.trm_core.specs.declared.record.Machine.{Machine}
@@ -55,7 +55,7 @@ module _ (G : Geometry) where
 
   -- "4 uncached wait, 1–5 for LD, 1–4 for ST"
   unfoldable pub waitOk : ℕ → ℕ → ℕ → Visible → Bool
-  waitOk w n count v = leb 1 count && ltb count (uncachedCharge w) && pastCache w v n
+  waitOk w n count v = leb 1 count && leb count (cond (isLoad w) 5 4) && pastCache w v n
 
   -- "5 needs 14 taken, 15, 11 with bit 10 set, 11 clearing bit 3 with cache on and no line dirty, LD from a device, or LD or ST with
   -- its block in the line"
