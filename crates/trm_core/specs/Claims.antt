@@ -25,6 +25,9 @@ use Rattle.trm_core.specs.Record.{Lent, visibleOf, cacheOf, resetOf}
 use Rattle.trm_core.specs.Clock.{chargeHere, carried, worked, heldClock, clockOf}
 use Rattle.trm_core.specs.Rule.{recordOk}
 use Rattle.trm_core.specs.Refusals.{storeOk, resetRefusal, clockRefusal}
+use Rattle.trm_core.specs.Scenario.{spread, recordDigest, referenceDigest, finishes, phases}
+use Rattle.trm_core.specs.Scenario.{expectedRecordDigest, expectedReferenceDigest, expectedFinishes, expectedPhases}
+use Rattle.trm_core.specs.Refused.{AllGive, rows}
 
 -- The record's arrays hold sixteen registers and all lines: of the record of the code this is so by its type.
 pub record Shaped (G : Geometry) (m : Machine) : Type 0 where
@@ -114,3 +117,24 @@ SeenChangesLast =
     (G : Geometry) (p : List ℕ) (x : Lent) (pins : Pins)
     → clockOf G p x pins .out .done ≡ 0 → not (stalled (pins .line)) && acknowledges (x .machine) pins ≡ false
     → Unseen G p x pins
+
+-- The scenario: both machines, clock by clock, come to the numbers of a second reading of the paper.
+abbrev pub ScenarioHolds : Type 0
+ScenarioHolds =
+    (recordDigest ≡ expectedRecordDigest)
+    × (referenceDigest ≡ expectedReferenceDigest)
+    × (finishes ≡ expectedFinishes)
+    × (phases ≡ spread expectedPhases)
+
+-- The refusals: every call gives the number expected of it, row by row.
+abbrev pub RefusalsHold : Type 0
+RefusalsHold = AllGive rows
+
+pub record Claims : Type 0 where
+  pub clock-table : ClockTable
+  pub record-kept : RecordKept
+  pub deaf : Deaf
+  pub clocks-are-three : ClocksAreThree
+  pub seen-changes-last : SeenChangesLast
+  pub scenario-holds : ScenarioHolds
+  pub refusals-hold : RefusalsHold

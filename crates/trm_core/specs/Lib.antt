@@ -8,4 +8,6 @@ pub mod Rule
 pub mod Refusals
 pub mod Run
 pub mod Observe
+pub mod Scenario
+pub mod Refused
 pub mod Claims

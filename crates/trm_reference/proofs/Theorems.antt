@@ -2,8 +2,8 @@
 -- Idea: each field is a table of Laws/Tables.antt.
 -- Assumes nothing.
 use Rattle.trm_reference.specs.Claims.{Claims}
-use Rattle.trm_reference.proofs.Laws.Tables.{starred-hold, clock-table-holds, executed-hold, interrupts-hold, histories-hold}
-use Rattle.trm_reference.proofs.Laws.Tables.{stalls-hold}
+use Rattle.trm_reference.proofs.Laws.Tables.{starred-hold, clock-table-holds, executed-hold, accesses-hold}
+use Rattle.trm_reference.proofs.Laws.Tables.{interrupts-hold, histories-hold, stalls-hold}
 
 pub theorems : Claims
 theorems =
@@ -11,6 +11,7 @@ theorems =
       starred-hold = starred-hold;
       clock-table-holds = clock-table-holds;
       executed-hold = executed-hold;
+      accesses-hold = accesses-hold;
       interrupts-hold = interrupts-hold;
       histories-hold = histories-hold;
       stalls-hold = stalls-hold;

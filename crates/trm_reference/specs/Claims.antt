@@ -1,7 +1,14 @@
--- What is claimed of the reference machine: in the cases of six tables its definitions give what the paper gives.
+-- What is claimed of the reference machine: in the cases of seven tables its definitions give what the paper gives.
 -- Paper: "Bench cases", the clock table, "What a programmer sees", "Clock by clock". The value is in proofs/Theorems.antt.
 -- Assumes nothing.
-use Rattle.trm_reference.specs.Tables.{AllHold, starred, clockTable, executed, interrupts, histories, stalls}
+use Rattle.trm_reference.specs.Tables.{AllHold}
+use Rattle.trm_reference.specs.Tables.Starred.{starred}
+use Rattle.trm_reference.specs.Tables.ClockTable.{clockTable}
+use Rattle.trm_reference.specs.Tables.Executed.{executed}
+use Rattle.trm_reference.specs.Tables.Accesses.{accesses}
+use Rattle.trm_reference.specs.Tables.Interrupts.{interrupts}
+use Rattle.trm_reference.specs.Tables.Histories.{histories}
+use Rattle.trm_reference.specs.Tables.Stalls.{stalls}
 
 -- Every starred bench case holds, carried out as a word.
 abbrev pub StarredHold : Type 0
@@ -11,9 +18,14 @@ StarredHold = AllHold starred
 abbrev pub ClockTableHolds : Type 0
 ClockTableHolds = AllHold clockTable
 
--- In each case a word changes PC, registers, H, flags, status and memory as the paper says, and no other register or word.
+-- In each case a word changes PC, registers, H, flags and status as the paper says, and no other register.
 abbrev pub ExecutedHold : Type 0
 ExecutedHold = AllHold executed
+
+-- In each case LD and ST reach the address, the word of memory and the device of the paper, in their last clock, and no other word;
+-- an accepted reset gives zeros and the words lent.
+abbrev pub AccessesHold : Type 0
+AccessesHold = AllHold accesses
 
 -- In each case a clock takes an interrupt, begins a word or is held as the paper says.
 abbrev pub InterruptsHold : Type 0
@@ -31,6 +43,7 @@ pub record Claims : Type 0 where
   pub starred-hold : StarredHold
   pub clock-table-holds : ClockTableHolds
   pub executed-hold : ExecutedHold
+  pub accesses-hold : AccessesHold
   pub interrupts-hold : InterruptsHold
   pub histories-hold : HistoriesHold
   pub stalls-hold : StallsHold

@@ -42,14 +42,28 @@ wentTo v pc =
 abbrev pub wroteTo : Visible → ℕ → ℕ → ℕ → Visible
 wroteTo v pc r x =
     record {
-      pc = pc; regs = withRegister v r x; h = v .h; n = v .n; z = v .z; c = v .c; v = v .v; status = v .status;
+      pc = pc;
+      regs = withRegister v r x;
+      h = v .h;
+      n = v .n;
+      z = v .z;
+      c = v .c;
+      v = v .v;
+      status = v .status;
     }
 
 -- "11 with bit 10 clear: status := bits 3–0"
 unfoldable pub statusSet : ℕ → Visible → Visible
 statusSet w v =
     record {
-      pc = nextPc (v .pc); regs = v .regs; h = v .h; n = v .n; z = v .z; c = v .c; v = v .v; status = newStatus w;
+      pc = nextPc (v .pc);
+      regs = v .regs;
+      h = v .h;
+      n = v .n;
+      z = v .z;
+      c = v .c;
+      v = v .v;
+      status = newStatus w;
     }
 
 -- "set NZCV from R.s bits 31–28 and the mode to 0"

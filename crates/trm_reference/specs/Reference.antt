@@ -32,7 +32,14 @@ pub record Reference : Type 0 where
 unfoldable pub referenceReset : List ℕ → Reference
 referenceReset s =
     record {
-      visible = resetVisible; memory = s; history = []; left = 0; clocks = 0; held = 0; refills = 0; writebacks = 0;
+      visible = resetVisible;
+      memory = s;
+      history = [];
+      left = 0;
+      clocks = 0;
+      held = 0;
+      refills = 0;
+      writebacks = 0;
     }
 
 module _ (G : Geometry) (w : ℕ) (q : Reference) where
@@ -54,40 +61,55 @@ module _ (G : Geometry) (w : ℕ) (q : Reference) where
 
   unfoldable pub writebackOver : ℕ → ℕ
   writebackOver left =
-    cond (throughCache w (q .visible) (length (q .memory))) (cond (misses && evicts && eqb left (1 + burst G)) 1 0)
-    (cond (turnsCacheOff w (q .visible)) (cond (eqb ((left - 1) % burst G) 0) 1 0) 0)
+      cond (throughCache w (q .visible) (length (q .memory))) (cond (misses && evicts && eqb left (1 + burst G)) 1 0)
+      (cond (turnsCacheOff w (q .visible)) (cond (eqb ((left - 1) % burst G) 0) 1 0) 0)
 
   -- "At 0 the word is carried out": ST to memory stores R.d
   unfoldable pub memoryAfter : List ℕ
   memoryAfter =
-    cond (toMemory w (q .visible) (length (q .memory)) && isStore w)
-    (set (q .memory) (target w (q .visible) (length (q .memory))) (stored w (q .visible)))
-    (q .memory)
+      cond (toMemory w (q .visible) (length (q .memory)) && isStore w)
+      (set (q .memory) (target w (q .visible) (length (q .memory))) (stored w (q .visible)))
+      (q .memory)
 
   -- "a memory access with cache on, or an emptying, joins the history"
   unfoldable pub historyAfter : List Event
   historyAfter =
-    cond (throughCache w (q .visible) (length (q .memory)))
-    (access (record { block = targetBlock G w (q .visible) (length (q .memory)); store = isStore w }) ∷ q .history)
-    (cond (turnsCacheOff w (q .visible)) (emptying ∷ q .history) (q .history))
+      cond (throughCache w (q .visible) (length (q .memory)))
+      (access (record { block = targetBlock G w (q .visible) (length (q .memory)); store = isStore w }) ∷ q .history)
+      (cond (turnsCacheOff w (q .visible)) (emptying ∷ q .history) (q .history))
 
   -- the word is carried out; i is this clock's input word; a place that is not of memory has no word there
   unfoldable pub carryOut : ℕ → After Reference Answer
   carryOut i = record {
     state = record {
       visible = execute w (q .visible) (loaded w (q .visible) (length (q .memory)) i
-        (getD (q .memory) (target w (q .visible) (length (q .memory))) 0));
-      memory = memoryAfter; history = historyAfter; left = 0;
-      clocks = q .clocks + 1; held = q .held; refills = q .refills; writebacks = q .writebacks };
-    out = answerOf w (q .visible) (length (q .memory)) i }
+          (getD (q .memory) (target w (q .visible) (length (q .memory))) 0));
+      memory = memoryAfter;
+      history = historyAfter;
+      left = 0;
+      clocks = q .clocks + 1;
+      held = q .held;
+      refills = q .refills;
+      writebacks = q .writebacks;
+    };
+    out = answerOf w (q .visible) (length (q .memory)) i;
+  }
 
   -- the clock goes by and this many are left
   unfoldable pub spend : ℕ → After Reference Answer
   spend left = record {
-    state = record { visible = q .visible; memory = q .memory; history = q .history; left = left;
-      clocks = q .clocks + 1; held = q .held; refills = q .refills + refillOver left;
-      writebacks = q .writebacks + writebackOver left };
-    out = silent 0 }
+    state = record {
+      visible = q .visible;
+      memory = q .memory;
+      history = q .history;
+      left = left;
+      clocks = q .clocks + 1;
+      held = q .held;
+      refills = q .refills + refillOver left;
+      writebacks = q .writebacks + writebackOver left;
+    };
+    out = silent 0;
+  }
 
   -- "Then one is taken off. At 0 the word is carried out": left is not 0, so the difference does not truncate
   unfoldable pub takeOff : ℕ → ℕ → After Reference Answer
@@ -96,27 +118,45 @@ module _ (G : Geometry) (w : ℕ) (q : Reference) where
 -- "a held one adds a held clock and no more"
 unfoldable pub referenceHeld : Reference → After Reference Answer
 referenceHeld q = record {
-  state = record { visible = q .visible; memory = q .memory; history = q .history; left = q .left;
-    clocks = q .clocks + 1; held = q .held + 1; refills = q .refills; writebacks = q .writebacks };
-  out = silent 0 }
+  state = record {
+    visible = q .visible;
+    memory = q .memory;
+    history = q .history;
+    left = q .left;
+    clocks = q .clocks + 1;
+    held = q .held + 1;
+    refills = q .refills;
+    writebacks = q .writebacks;
+  };
+  out = silent 0;
+}
 
 -- "takes an interrupt by the rule above, and is done"
 unfoldable pub referenceInterrupt : ℕ → Reference → After Reference Answer
 referenceInterrupt to q = record {
-  state = record { visible = interrupted (q .visible) to; memory = q .memory; history = q .history; left = 0;
-    clocks = q .clocks + 1; held = q .held; refills = q .refills; writebacks = q .writebacks };
-  out = silent 0 }
+  state = record {
+    visible = interrupted (q .visible) to;
+    memory = q .memory;
+    history = q .history;
+    left = 0;
+    clocks = q .clocks + 1;
+    held = q .held;
+    refills = q .refills;
+    writebacks = q .writebacks;
+  };
+  out = silent 0;
+}
 
 module _ (G : Geometry) where
   -- "With no clocks left it takes an interrupt .., or else sets them to the charge of the word at PC"
   unfoldable pub referenceUnheld : ℕ → Reference → Pins → After Reference Answer
   referenceUnheld w q pins =
-    cond (eqb (q .left) 0)
-    (cond (eqb (interruptChosen (q .visible .status) (pins .line)) 0)
-    (takeOff G w q (charge G w q) (pins .input))
-    (referenceInterrupt (interruptChosen (q .visible .status) (pins .line)) q))
-    (takeOff G w q (q .left) (pins .input))
+      cond (eqb (q .left) 0)
+      (cond (eqb (interruptChosen (q .visible .status) (pins .line)) 0)
+      (takeOff G w q (charge G w q) (pins .input))
+      (referenceInterrupt (interruptChosen (q .visible .status) (pins .line)) q))
+      (takeOff G w q (q .left) (pins .input))
 
   unfoldable pub referenceClock : List ℕ → Reference → Pins → After Reference Answer
   referenceClock p q pins =
-    cond (stalled (pins .line)) (referenceHeld q) (referenceUnheld (wordAt p (q .visible .pc)) q pins)
+      cond (stalled (pins .line)) (referenceHeld q) (referenceUnheld (wordAt p (q .visible .pc)) q pins)

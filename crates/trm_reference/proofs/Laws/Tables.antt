@@ -1,12 +1,10 @@
 -- Every row of each table holds.
 -- Idea: one test computes all rows of a table, and a test that computes to true gives the equations.
 -- Assumes nothing.
-use mathlib.Core.Path.{_≡_, refl, ap₂}
-use mathlib.Core.Bool.{Bool, true, false, false≢true, _&&_, and-eq-true-iff}
-use mathlib.Core.List.{List, [], _∷_}
-use Prim.Native.Nat.{ℕ}
-use lib.Dec.{eqb}
-use borrow.Author.Tests.{eqb-true}
+use mathlib.Core.Path.{_≡_, refl}
+use mathlib.Core.Bool.{Bool, true}
+use mathlib.Core.List.{List}
+use Rattle.trm_laws.proofs.Table.{same, test, test-true}
 use Rattle.trm_alu.specs.Word.{signed, word}
 use Rattle.trm_alu.specs.Multiply.{product, lowWord, highWord}
 use Rattle.trm_alu.specs.Divide.{above0, floorDiv, floorMod, quotient, remainder}
@@ -27,47 +25,36 @@ use Rattle.trm_reference.specs.Trace.{pinsOf, clocks, endOf, outsOf, fin
 use Rattle.trm_reference.specs.Reference.{referenceReset, misses, evicts, charge, refillOver, writebackOver, memoryAfter}
 use Rattle.trm_reference.specs.Reference.{historyAfter, carryOut, spend, takeOff, referenceHeld, referenceInterrupt}
 use Rattle.trm_reference.specs.Reference.{referenceUnheld, referenceClock}
-use Rattle.trm_reference.specs.Tables.{Row, AllHold, ranWith, ran, stateAfter, finishes, arithmetic, placed, changedFrom, shown}
-use Rattle.trm_reference.specs.Tables.{answered, kept, reached, restOf, judged, counted, finishedAt, stalledRun, answersOf}
-use Rattle.trm_reference.specs.Tables.{starred, clockTable, executed, interrupts, histories, stalls}
+use Rattle.trm_reference.specs.Tables.{Row, AllHold, ranWith, ran, stateAfter, finishes, changedFrom, shown, restOf}
+use Rattle.trm_reference.specs.Tables.Starred.{arithmetic, placed, starred}
+use Rattle.trm_reference.specs.Tables.ClockTable.{clockTable}
+use Rattle.trm_reference.specs.Tables.Executed.{executed}
+use Rattle.trm_reference.specs.Tables.Accesses.{answered, kept, accesses}
+use Rattle.trm_reference.specs.Tables.Interrupts.{reached, interrupts}
+use Rattle.trm_reference.specs.Tables.Histories.{judged, counted, finishedAt, histories}
+use Rattle.trm_reference.specs.Tables.Stalls.{stalledRun, answersOf, stalls}
 
-same : List ℕ → List ℕ → Bool
-same [] [] = true
-same [] (y ∷ ys) = false
-same (x ∷ xs) [] = false
-same (x ∷ xs) (y ∷ ys) = eqb x y && same xs ys
+-- each row's two lists are equal, as a test of the whole table
+abbrev passes : List Row → Bool
+passes = test (λ r. r .computed) (λ r. r .expected)
 
-same-true : (xs ys : List ℕ) → same xs ys ≡ true → xs ≡ ys
-unfolding same
-same-true [] [] t = refl
-same-true [] (y ∷ ys) t = absurd (false≢true t)
-same-true (x ∷ xs) [] t = absurd (false≢true t)
-same-true (x ∷ xs) (y ∷ ys) t =
-    let p = and-eq-true-iff (eqb x y) (same xs ys) .0 t in ap₂ _∷_ (eqb-true x y (p .0)) (same-true xs ys (p .1))
-
-test : List Row → Bool
-test [] = true
-test (r ∷ rs) = same (r .computed) (r .expected) && test rs
-
-test-true : (rs : List Row) → test rs ≡ true → AllHold rs
-unfolding test AllHold
-test-true [] t = tt
-test-true (r ∷ rs) t =
-    let p = and-eq-true-iff (same (r .computed) (r .expected)) (test rs) .0 t in
-    (same-true (r .computed) (r .expected) (p .0), test-true rs (p .1))
+passes-holds : (rs : List Row) → passes rs ≡ true → AllHold rs
+unfolding AllHold
+passes-holds = test-true (λ r. r .computed) (λ r. r .expected) AllHold tt (λ r rs p q. (p, q))
 
 -- the test of each table
 record Passed : Type 0 where
-  starred-passes : test starred ≡ true
-  clock-table-passes : test clockTable ≡ true
-  executed-passes : test executed ≡ true
-  interrupts-passes : test interrupts ≡ true
-  histories-passes : test histories ≡ true
-  stalls-passes : test stalls ≡ true
+  starred-passes : passes starred ≡ true
+  clock-table-passes : passes clockTable ≡ true
+  executed-passes : passes executed ≡ true
+  accesses-passes : passes accesses ≡ true
+  interrupts-passes : passes interrupts ≡ true
+  histories-passes : passes histories ≡ true
+  stalls-passes : passes stalls ≡ true
 
 passed : Passed
 unfolding test same
-    starred clockTable executed interrupts histories stalls ranWith ran stateAfter finishes arithmetic placed changedFrom shown
+    starred clockTable executed accesses interrupts histories stalls ranWith ran stateAfter finishes arithmetic placed changedFrom shown
     answered kept reached restOf judged counted finishedAt stalledRun answersOf
     signed word product lowWord highWord above0 floorDiv floorMod quotient remainder exactSum exactDifference sum difference ror
     shortResult resultOf highOf negative tooWide carryOfAdd carryOfSub overflowOfAdd overflowOfSub signFlag zeroFlag carryAfter
@@ -87,25 +74,29 @@ passed =
       starred-passes = refl;
       clock-table-passes = refl;
       executed-passes = refl;
+      accesses-passes = refl;
       interrupts-passes = refl;
       histories-passes = refl;
       stalls-passes = refl;
     }
 
 pub starred-hold : AllHold starred
-starred-hold = test-true starred (passed .starred-passes)
+starred-hold = passes-holds starred (passed .starred-passes)
 
 pub clock-table-holds : AllHold clockTable
-clock-table-holds = test-true clockTable (passed .clock-table-passes)
+clock-table-holds = passes-holds clockTable (passed .clock-table-passes)
 
 pub executed-hold : AllHold executed
-executed-hold = test-true executed (passed .executed-passes)
+executed-hold = passes-holds executed (passed .executed-passes)
+
+pub accesses-hold : AllHold accesses
+accesses-hold = passes-holds accesses (passed .accesses-passes)
 
 pub interrupts-hold : AllHold interrupts
-interrupts-hold = test-true interrupts (passed .interrupts-passes)
+interrupts-hold = passes-holds interrupts (passed .interrupts-passes)
 
 pub histories-hold : AllHold histories
-histories-hold = test-true histories (passed .histories-passes)
+histories-hold = passes-holds histories (passed .histories-passes)
 
 pub stalls-hold : AllHold stalls
-stalls-hold = test-true stalls (passed .stalls-passes)
+stalls-hold = passes-holds stalls (passed .stalls-passes)

@@ -1,0 +1,21 @@
+-- The claims on the clocked machine, all proved: the value of the record of `specs/Claims.antt`.
+-- Idea: each field is a law of Laws/.
+-- Assumes nothing.
+use Rattle.trm_core.specs.Claims.{Claims}
+use Rattle.trm_core.proofs.Laws.Table.{clock-table}
+use Rattle.trm_core.proofs.Laws.Kept.{record-kept}
+use Rattle.trm_core.proofs.Laws.Deaf.{deaf, clocks-are-three, seen-changes-last}
+use Rattle.trm_core.proofs.Laws.Scenario.{scenario-holds}
+use Rattle.trm_core.proofs.Laws.Refused.{refusals-hold}
+
+pub theorems : Claims
+theorems =
+    record {
+      clock-table = clock-table;
+      record-kept = record-kept;
+      deaf = deaf;
+      clocks-are-three = clocks-are-three;
+      seen-changes-last = seen-changes-last;
+      scenario-holds = scenario-holds;
+      refusals-hold = refusals-hold;
+    }

@@ -1,0 +1,85 @@
+-- The clock table, each line in each of its forms. The latest access stands first; blocks 0 and 16 are of line 0.
+-- Paper: "Clock by clock", the table.
+-- Assumes nothing.
+use Prim.Native.Nat.{ℕ}
+use mathlib.Core.List.{List, [], _∷_}
+use Rattle.trm_reference.specs.Geometry.{paperGeometry}
+use Rattle.trm_reference.specs.History.{emptying}
+use Rattle.trm_reference.specs.Reference.{Reference, charge}
+use Rattle.trm_reference.specs.Tables.{Row, row, literalWord, registerWord, statusWord, jumpWord, loadWord, storeWord, branchWord}
+use Rattle.trm_reference.specs.Tables.{callWord, holding, seen, machine, loadOf, storeOf, cacheOff, cacheWith}
+
+-- the charge of a word in a state, and the clocks that the table gives
+abbrev pub charged : Reference → ℕ → ℕ → Row
+charged q w clocks = row (charge paperGeometry w q ∷ []) (clocks ∷ [])
+
+unfoldable pub clockTable : List Row
+clockTable =
+    -- 0–7, 10: 1
+    charged cacheOff (literalWord 0 1 5) 1
+    ∷ charged cacheOff (literalWord 1 1 5) 1
+    ∷ charged cacheOff (literalWord 2 1 5) 1
+    ∷ charged cacheOff (literalWord 3 1 5) 1
+    ∷ charged cacheOff (registerWord 4 1 2) 1
+    ∷ charged cacheOff (registerWord 5 1 2) 1
+    ∷ charged cacheOff (registerWord 6 1 2) 1
+    ∷ charged cacheOff (registerWord 7 1 2) 1
+    ∷ charged cacheOff (registerWord 10 1 2) 1
+    -- 11 with bit 10 clear: 1, the cache being off before it
+    ∷ charged cacheOff (statusWord 3) 1
+    ∷ charged cacheOff (statusWord 8) 1
+    -- 14 not taken: 1; never is 3BC00H
+    ∷ charged cacheOff (branchWord 0 5) 1
+    ∷ charged cacheOff 0x3BC00 1
+    -- 14 taken: 2, always, and where Z is set; 15: 2
+    ∷ charged cacheOff (branchWord 14 5) 2
+    ∷ charged (machine (seen 0 0 1 0 0 0) 256 []) (branchWord 0 5) 2
+    ∷ charged cacheOff (callWord 5) 2
+    -- 11 with bit 10 set: 2, in each of its four forms, and with dirty lines, since it clears no status bit 3
+    ∷ charged cacheOff (jumpWord 0 1 2) 2
+    ∷ charged cacheOff (jumpWord 1 1 2) 2
+    ∷ charged cacheOff (jumpWord 2 1 2) 2
+    ∷ charged cacheOff (jumpWord 3 1 2) 2
+    ∷ charged (cacheWith (storeOf 1 ∷ storeOf 0 ∷ [])) (jumpWord 0 1 2) 2
+    -- 8, 9: 33
+    ∷ charged cacheOff (registerWord 8 1 2) 33
+    ∷ charged cacheOff (registerWord 9 1 2) 33
+    -- LD, ST to a device: 2, 1, the cache off or on
+    ∷ charged cacheOff (loadWord 3 1 0) 2
+    ∷ charged cacheOff (storeWord 3 1 0) 1
+    ∷ charged (cacheWith (storeOf 0 ∷ [])) (loadWord 3 1 0) 2
+    ∷ charged (cacheWith (storeOf 0 ∷ [])) (storeWord 3 1 0) 1
+    -- LD, ST to a cached hit: 2, 1; the block's last word, its first, and a dirty block
+    ∷ charged (cacheWith (loadOf 0 ∷ [])) (loadWord 3 7 7) 2
+    ∷ charged (cacheWith (loadOf 0 ∷ [])) (storeWord 3 7 0) 1
+    ∷ charged (cacheWith (storeOf 0 ∷ [])) (loadWord 3 7 0) 2
+    ∷ charged (cacheWith (storeOf 0 ∷ [])) (storeWord 3 7 7) 1
+    -- "address, once reduced to the store": 256 is word 0 of 256 words, and block 32 of 512
+    ∷ charged (machine (holding 256 0 8) 256 (loadOf 0 ∷ [])) (loadWord 3 1 0) 2
+    ∷ charged (machine (holding 256 0 8) 512 (loadOf 0 ∷ [])) (loadWord 3 1 0) 12
+    -- LD or ST, cache on, miss: 12, the line empty, then holding another block; word 8 is of the next line
+    ∷ charged (cacheWith []) (loadWord 3 7 0) 12
+    ∷ charged (cacheWith []) (storeWord 3 7 0) 12
+    ∷ charged (cacheWith (loadOf 0 ∷ [])) (loadWord 3 7 128) 12
+    ∷ charged (cacheWith (loadOf 0 ∷ [])) (storeWord 3 7 128) 12
+    ∷ charged (cacheWith (storeOf 0 ∷ [])) (loadWord 3 7 8) 12
+    -- 22 if the old block is dirty
+    ∷ charged (cacheWith (storeOf 0 ∷ [])) (loadWord 3 7 128) 22
+    ∷ charged (cacheWith (storeOf 0 ∷ [])) (storeWord 3 7 128) 22
+    -- LD, ST to memory, cache off: 6, 5, also once the cache is emptied
+    ∷ charged cacheOff (loadWord 3 7 0) 6
+    ∷ charged cacheOff (storeWord 3 7 0) 5
+    ∷ charged (machine (holding 0 0 0) 256 (emptying ∷ storeOf 0 ∷ [])) (loadWord 3 7 0) 6
+    ∷ charged (machine (holding 0 0 0) 256 (emptying ∷ storeOf 0 ∷ [])) (storeWord 3 7 0) 5
+    -- 11 clearing status bit 3: 1, and 10 for each dirty line: none, one, one stored to twice, two
+    ∷ charged (cacheWith []) (statusWord 0) 1
+    ∷ charged (cacheWith (loadOf 1 ∷ loadOf 0 ∷ [])) (statusWord 0) 1
+    ∷ charged (cacheWith (storeOf 0 ∷ [])) (statusWord 0) 11
+    ∷ charged (cacheWith (storeOf 0 ∷ storeOf 0 ∷ [])) (statusWord 0) 11
+    ∷ charged (cacheWith (storeOf 1 ∷ storeOf 0 ∷ [])) (statusWord 0) 21
+    ∷ charged (cacheWith (storeOf 1 ∷ storeOf 0 ∷ [])) (statusWord 7) 21
+    -- 1 with the cache already off, and 1 with bit 3 set
+    ∷ charged (machine (holding 0 0 0) 256 (emptying ∷ storeOf 1 ∷ storeOf 0 ∷ [])) (statusWord 0) 1
+    ∷ charged (cacheWith (storeOf 1 ∷ storeOf 0 ∷ [])) (statusWord 8) 1
+    ∷ charged (cacheWith (storeOf 1 ∷ storeOf 0 ∷ [])) (statusWord 11) 1
+    ∷ []

@@ -1,0 +1,96 @@
+-- Interrupts: which one is chosen, what it writes, when a clock takes it, and held clocks.
+-- Paper: "An unheld clock with no instruction in flight takes an interrupt if ..", "A clock with stall set is held".
+-- Assumes nothing.
+use Prim.Native.Nat.{ℕ}
+use mathlib.Core.List.{List, [], _∷_}
+use lib.ListN.{getD}
+use Rattle.trm_reference.specs.Interrupt.{interruptChosen, interrupted}
+use Rattle.trm_reference.specs.Trace.{outsOf, finishedIn}
+use Rattle.trm_reference.specs.Reference.{Reference}
+use Rattle.trm_reference.specs.Tables.{Row, row, literalWord, jumpWord, callWord, seen, machine, ran, stateAfter, storeOf}
+use Rattle.trm_reference.specs.Tables.{changedFrom, shown, restOf}
+
+-- the PC that an interrupt goes to, 0 for none, given the status and the line byte
+abbrev pub chosen : ℕ → ℕ → ℕ → Row
+chosen status line pc = row (interruptChosen status line ∷ []) (pc ∷ [])
+
+-- PC, bank 1's R7, the status, clocks left, clocks, held clocks, and the words finished in the run
+unfoldable pub reached : List ℕ → Reference → List ℕ → List ℕ
+reached p q lines =
+    let u : Reference = stateAfter p q lines in
+    u .visible .pc
+    ∷ getD (u .visible .regs) 15 0
+    ∷ u .visible .status
+    ∷ u .left
+    ∷ u .clocks
+    ∷ u .held
+    ∷ finishedIn (outsOf (ran p q lines))
+    ∷ []
+
+-- a program with branch never at 3 and RTI by R7 at 2; one that calls 5 from 0; machines at PC 3, flags 1010,
+-- the second with cache on, interrupt 0 enabled and line 0 dirty; a machine at PC 0, flags 0101
+abbrev pub handler : List ℕ
+handler = literalWord 0 1 5 ∷ literalWord 0 1 6 ∷ jumpWord 1 0 7 ∷ 0x3BC00 ∷ []
+
+abbrev pub caller : List ℕ
+caller = callWord 4 ∷ []
+
+abbrev pub atNever : ℕ → Reference
+atNever status = machine (seen 3 1 0 1 0 status) 256 []
+
+abbrev pub atDirty : Reference
+atDirty = machine (seen 3 1 0 1 0 9) 256 (storeOf 0 ∷ [])
+
+abbrev pub atCall : ℕ → Reference
+atCall status = machine (seen 0 0 1 0 1 status) 256 []
+
+unfoldable pub interrupts : List Row
+interrupts =
+    -- "if the mode is 0 and an enabled line is high, line 0 before line 1 .. PC 2 or 3": line 0, line 1, both, with the cache on
+    chosen 1 1 2
+    ∷ chosen 3 1 2
+    ∷ chosen 2 2 3
+    ∷ chosen 3 2 3
+    ∷ chosen 3 3 2
+    ∷ chosen 2 3 3
+    ∷ chosen 11 2 3
+    -- no line high, not enabled, mode 1
+    ∷ chosen 3 0 0
+    ∷ chosen 0 3 0
+    ∷ chosen 2 1 0
+    ∷ chosen 1 2 0
+    ∷ chosen 5 1 0
+    ∷ chosen 7 3 0
+    -- "bank 1's R7 := NZCV in bits 31–28, zeros, PC in bits 11–0; mode 1; PC 2 or 3": flags 1010, then 0101
+    ∷ row
+    (shown (seen 0x123 1 0 1 0 11) (interrupted (seen 0x123 1 0 1 0 11) 2))
+    (2 ∷ 15 ∷ 0xA000_0123 ∷ 0x8000_0005 ∷ 1 ∷ 0 ∷ 1 ∷ 0 ∷ 15 ∷ [])
+    ∷ row
+    (shown (seen 0xFFF 0 1 0 1 2) (interrupted (seen 0xFFF 0 1 0 1 2) 3))
+    (3 ∷ 15 ∷ 0x5000_0FFF ∷ 0x8000_0005 ∷ 0 ∷ 1 ∷ 0 ∷ 1 ∷ 6 ∷ [])
+    -- taken beside a program's own 3BC00H, and beyond the program; "one clock", no word finished
+    ∷ row (reached handler (atNever 1) (1 ∷ [])) (2 ∷ 0xA000_0003 ∷ 5 ∷ 0 ∷ 1 ∷ 0 ∷ 0 ∷ [])
+    ∷ row (reached caller (atNever 2) (2 ∷ [])) (3 ∷ 0xA000_0003 ∷ 6 ∷ 0 ∷ 1 ∷ 0 ∷ 0 ∷ [])
+    ∷ row (reached handler (atNever 3) (3 ∷ [])) (2 ∷ 0xA000_0003 ∷ 7 ∷ 0 ∷ 1 ∷ 0 ∷ 0 ∷ [])
+    -- PC, the status and bank 1's R7 change and nothing else: their places in `restOf` are 4, 10 and 26
+    ∷ row
+    (changedFrom 0 (restOf atDirty) (restOf (stateAfter handler atDirty (1 ∷ []))))
+    (4 ∷ 2 ∷ 10 ∷ 13 ∷ 26 ∷ 0xA000_0003 ∷ [])
+    -- "Otherwise it begins an instruction": no line high, in the program and beyond it; not enabled; mode 1
+    ∷ row (reached handler (atNever 3) (0 ∷ [])) (4 ∷ 0x10F ∷ 3 ∷ 0 ∷ 1 ∷ 0 ∷ 1 ∷ [])
+    ∷ row (reached caller (atNever 3) (0 ∷ [])) (4 ∷ 0x10F ∷ 3 ∷ 0 ∷ 1 ∷ 0 ∷ 1 ∷ [])
+    ∷ row (reached handler (atNever 2) (1 ∷ [])) (4 ∷ 0x10F ∷ 2 ∷ 0 ∷ 1 ∷ 0 ∷ 1 ∷ [])
+    ∷ row (reached handler (atNever 7) (3 ∷ [])) (4 ∷ 0x10F ∷ 7 ∷ 0 ∷ 1 ∷ 0 ∷ 1 ∷ [])
+    -- "with no instruction in flight": a line high in the second clock of a call is not taken, and in the next clock it is
+    ∷ row (reached caller (atCall 3) (0 ∷ [])) (0 ∷ 0x10F ∷ 3 ∷ 1 ∷ 1 ∷ 0 ∷ 0 ∷ [])
+    ∷ row (reached caller (atCall 3) (0 ∷ 1 ∷ [])) (5 ∷ 0x10F ∷ 3 ∷ 0 ∷ 2 ∷ 0 ∷ 1 ∷ [])
+    ∷ row (reached caller (atCall 3) (0 ∷ 1 ∷ 2 ∷ [])) (3 ∷ 0x5000_0005 ∷ 7 ∷ 0 ∷ 3 ∷ 0 ∷ 1 ∷ [])
+    -- RTI by R7 gives back the PC and the mode in two clocks; a line still high is then taken again
+    ∷ row (reached handler (atNever 1) (1 ∷ 0 ∷ 0 ∷ [])) (3 ∷ 0xA000_0003 ∷ 1 ∷ 0 ∷ 3 ∷ 0 ∷ 1 ∷ [])
+    ∷ row (reached handler (atNever 1) (1 ∷ 1 ∷ 1 ∷ 1 ∷ [])) (2 ∷ 0xA000_0003 ∷ 5 ∷ 0 ∷ 4 ∷ 0 ∷ 1 ∷ [])
+    -- "A clock with stall set is held: it adds one to the clock and held counts and does nothing else": ready, and in flight
+    ∷ row (reached handler (atNever 1) (5 ∷ [])) (3 ∷ 0x10F ∷ 1 ∷ 0 ∷ 1 ∷ 1 ∷ 0 ∷ [])
+    ∷ row (reached caller (atCall 3) (0 ∷ 7 ∷ [])) (0 ∷ 0x10F ∷ 3 ∷ 1 ∷ 2 ∷ 1 ∷ 0 ∷ [])
+    ∷ row (restOf (stateAfter handler (atNever 1) (5 ∷ []))) (restOf (atNever 1))
+    ∷ row (restOf (stateAfter caller (atCall 3) (0 ∷ 7 ∷ []))) (restOf (stateAfter caller (atCall 3) (0 ∷ [])))
+    ∷ []
