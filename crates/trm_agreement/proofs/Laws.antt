@@ -5,13 +5,13 @@ pub mod Simulate
 pub mod History
 pub mod Relation
 pub mod Finish
-pub mod Due
-pub mod Steps
+pub mod Moves
+pub mod WriteBack
+pub mod Refill
 pub mod First
 pub mod Bounds
 pub mod Clock
 pub mod Accepted
-pub mod Fits
 pub mod Demand
 pub mod Ledger
 pub mod Interrupts

@@ -54,14 +54,14 @@ pub record Seen : Type 0 where
 module _ (G : Geometry) (p : List ℕ) where
   unfoldable pub recordSeen : Lent → Seen
   recordSeen x =
-    record {
-      visible = visibleOf (x .machine);
-      memory = copyOf G (cacheOf (x .machine)) (x .store);
-      clocks = x .machine .scalars .counts .clocks;
-      held = x .machine .scalars .counts .held;
-      refills = x .machine .scalars .counts .refills;
-      writebacks = x .machine .scalars .counts .writebacks;
-    }
+      record {
+        visible = visibleOf (x .machine);
+        memory = copyOf G (cacheOf (x .machine)) (x .store);
+        clocks = x .machine .scalars .counts .clocks;
+        held = x .machine .scalars .counts .held;
+        refills = x .machine .scalars .counts .refills;
+        writebacks = x .machine .scalars .counts .writebacks;
+      }
 
   unfoldable pub recordCode : Lent → Call → ℕ
   recordCode x (clockCall line input) = clockRefusal G p (x .machine) (x .store) line
@@ -72,10 +72,14 @@ module _ (G : Geometry) (p : List ℕ) where
 
   unfoldable pub referenceSeen : Reference → Seen
   referenceSeen q =
-    record {
-      visible = q .visible; memory = q .memory;
-      clocks = q .clocks; held = q .held; refills = q .refills; writebacks = q .writebacks;
-    }
+      record {
+        visible = q .visible;
+        memory = q .memory;
+        clocks = q .clocks;
+        held = q .held;
+        refills = q .refills;
+        writebacks = q .writebacks;
+      }
 
   -- rows 6, 7 and 8, of the clock count: never 4, never 5
   unfoldable pub ownRows : ℕ → Call → ℕ

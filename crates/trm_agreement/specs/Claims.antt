@@ -12,17 +12,17 @@ use lib.Dec.{eqb}
 use Rattle.trm_word.specs.Fields.{bit, destination}
 use Rattle.trm_reference.specs.Geometry.{Geometry, paperGeometry, geometryOk}
 use Rattle.trm_reference.specs.Visible.{Visible, register, wordAt}
-use Rattle.trm_reference.specs.Access.{isLoad, isStore, placeOfWord, deviceNumber, toDevice, loaded, Answer, silent, answerOf}
+use Rattle.trm_reference.specs.Access.{isLoad, isStore, placeOfWord, deviceNumber, toDevice, loaded, silent, answerOf}
 use Rattle.trm_reference.specs.Execute.{execute}
 use Rattle.trm_reference.specs.Interrupt.{stalled, interruptChosen}
-use Rattle.trm_reference.specs.Trace.{Pins, After, clocks, endOf, outsOf}
+use Rattle.trm_reference.specs.Trace.{Pins, clocks, endOf, outsOf}
 use Rattle.trm_reference.specs.Reference.{Reference, charge, takeOff, referenceHeld, referenceInterrupt, referenceClock, referenceReset}
 use Rattle.trm_core.specs.Record.{Lent, resetOf}
 use Rattle.trm_core.specs.Refusals.{resetRefusal}
-use Rattle.trm_agreement.specs.Log.{Engine, logOf, codesOf, fedOf, stateOf}
+use Rattle.trm_agreement.specs.Log.{logOf, codesOf, fedOf, stateOf}
 use Rattle.trm_agreement.specs.Calls.{Call, feed, answer, recordEngine, referenceEngine}
 use Rattle.trm_agreement.specs.Ledger.{Did, heldIn, chargesIn, spentIn, Took, due, ledgerFrom, longest}
-use Rattle.trm_agreement.specs.Devices.{finishes, accessesOf, deviceAnswers}
+use Rattle.trm_agreement.specs.Devices.{accessesOf, deviceAnswers}
 
 -- the record and the store after an accepted reset
 abbrev pub start : Geometry → List ℕ → Lent
@@ -53,7 +53,7 @@ abbrev pub CallsAreClocks : Type 0
 CallsAreClocks =
     (G : Geometry) (p : List ℕ) (q : Reference) (cs : List Call)
     → stateOf feed answer (referenceEngine G p) q cs
-      ≡ endOf q (clocks (referenceClock G p) q (fedOf feed answer (referenceEngine G p) q cs))
+    ≡ endOf q (clocks (referenceClock G p) q (fedOf feed answer (referenceEngine G p) q cs))
 
 -- The ledger after any clocks: clocks = held + charges of what finished + unheld clocks spent on the one in flight; what is spent and
 -- what
@@ -78,17 +78,17 @@ pub record Bounded : Type 0 where
 -- Devices, clock by clock: the clock that carries a word out answers for it, any other clock is silent.
 pub record Told (G : Geometry) (p : List ℕ) (q : Reference) (pins : Pins) : Type 0 where
   pub done : referenceClock G p q pins .out .done ≡ 1 → referenceClock G p q pins .out
-    ≡ answerOf (wordAt p (q .visible .pc)) (q .visible) (length (q .memory)) (pins .input)
+      ≡ answerOf (wordAt p (q .visible .pc)) (q .visible) (length (q .memory)) (pins .input)
   pub quiet : referenceClock G p q pins .out .done ≡ 0 → referenceClock G p q pins .out ≡ silent 0
 
 -- A load's word is the clock's input word, and R.d gets it; a store's word is R.d; without a device both are zero.
 pub record Moves (w : ℕ) (v : Visible) (n i x : ℕ) : Type 0 where
   pub read : toDevice w v n ≡ true → isLoad w ≡ true
-    → answerOf w v n i ≡ record { byte = deviceNumber (placeOfWord w v n) * 4 + 1; word = i; done = 1 }
+      → answerOf w v n i ≡ record { byte = deviceNumber (placeOfWord w v n) * 4 + 1; word = i; done = 1 }
   pub arrives : toDevice w v n ≡ true → isLoad w ≡ true → 16 ≤ length (v .regs)
-    → register (execute w v (loaded w v n i x)) (destination w) ≡ i
+      → register (execute w v (loaded w v n i x)) (destination w) ≡ i
   pub write : toDevice w v n ≡ true → isStore w ≡ true
-    → answerOf w v n i ≡ record { byte = deviceNumber (placeOfWord w v n) * 4 + 2; word = register v (destination w); done = 1 }
+      → answerOf w v n i ≡ record { byte = deviceNumber (placeOfWord w v n) * 4 + 2; word = register v (destination w); done = 1 }
   pub none : toDevice w v n ≡ false → answerOf w v n i ≡ silent 1
 
 -- Devices, in order: the answers of any clocks that show an access are the accesses of the words carried out, once each.
@@ -120,7 +120,7 @@ Quiet =
 -- The rule in bits: an interrupt is named iff the mode is 0 and an enabled line is high; line 0 goes to 2, line 1 alone to 3.
 pub record Rule (status line : ℕ) : Type 0 where
   pub named : not (eqb (interruptChosen status line) 0)
-    ≡ not (eqb (bit 2 status) 1) && (eqb (bit 0 status) 1 && eqb (bit 0 line) 1 || eqb (bit 1 status) 1 && eqb (bit 1 line) 1)
+      ≡ not (eqb (bit 2 status) 1) && (eqb (bit 0 status) 1 && eqb (bit 0 line) 1 || eqb (bit 1 status) 1 && eqb (bit 1 line) 1)
   pub zeroth : bit 2 status ≡ 0 → bit 0 status ≡ 1 → bit 0 line ≡ 1 → interruptChosen status line ≡ 2
   pub first : bit 2 status ≡ 0 → bit 0 status * bit 0 line ≡ 0 → bit 1 status ≡ 1 → bit 1 line ≡ 1 → interruptChosen status line ≡ 3
 
@@ -128,12 +128,12 @@ pub record Rule (status line : ℕ) : Type 0 where
 pub record Taken (G : Geometry) (p : List ℕ) (q : Reference) (pins : Pins) : Type 0 where
   pub held : stalled (pins .line) ≡ true → referenceClock G p q pins ≡ referenceHeld q
   pub takes : stalled (pins .line) ≡ false → q .left ≡ 0 → interruptChosen (q .visible .status) (pins .line) ≢ 0
-    → referenceClock G p q pins ≡ referenceInterrupt (interruptChosen (q .visible .status) (pins .line)) q
+      → referenceClock G p q pins ≡ referenceInterrupt (interruptChosen (q .visible .status) (pins .line)) q
   pub begins : stalled (pins .line) ≡ false → q .left ≡ 0 → interruptChosen (q .visible .status) (pins .line) ≡ 0
-    → referenceClock G p q pins
+      → referenceClock G p q pins
       ≡ takeOff G (wordAt p (q .visible .pc)) q (charge G (wordAt p (q .visible .pc)) q) (pins .input)
   pub goesOn : stalled (pins .line) ≡ false → q .left ≢ 0
-    → referenceClock G p q pins ≡ takeOff G (wordAt p (q .visible .pc)) q (q .left) (pins .input)
+      → referenceClock G p q pins ≡ takeOff G (wordAt p (q .visible .pc)) q (q .left) (pins .input)
 
 pub record InterruptsHold : Type 0 where
   pub rule : (status line : ℕ) → Rule status line

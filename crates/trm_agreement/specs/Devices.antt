@@ -12,17 +12,17 @@ use Rattle.trm_reference.specs.Geometry.{Geometry}
 use Rattle.trm_reference.specs.Visible.{wordAt}
 use Rattle.trm_reference.specs.Access.{Answer, toDevice, answerOf}
 use Rattle.trm_reference.specs.Interrupt.{stalled, interruptChosen}
-use Rattle.trm_reference.specs.Trace.{Pins, After}
+use Rattle.trm_reference.specs.Trace.{Pins}
 use Rattle.trm_reference.specs.Reference.{Reference, charge, referenceClock}
 
 module _ (G : Geometry) (p : List ℕ) where
   -- unheld, and the last clock of what is in flight, or no interrupt and a word of one clock
   unfoldable pub finishes : Reference → Pins → Bool
   finishes q pins =
-    not (stalled (pins .line))
-    && cond (eqb (q .left) 0)
-       (eqb (interruptChosen (q .visible .status) (pins .line)) 0 && eqb (charge G (wordAt p (q .visible .pc)) q) 1)
-       (eqb (q .left) 1)
+      not (stalled (pins .line))
+      && cond (eqb (q .left) 0)
+      (eqb (interruptChosen (q .visible .status) (pins .line)) 0 && eqb (charge G (wordAt p (q .visible .pc)) q) 1)
+      (eqb (q .left) 1)
 
   -- the word at PC accesses a device
   unfoldable pub accessesDevice : Reference → Bool
@@ -31,9 +31,9 @@ module _ (G : Geometry) (p : List ℕ) where
   unfoldable pub accessesOf : Reference → List Pins → List Answer
   accessesOf q [] = []
   accessesOf q (i ∷ is) =
-    cond (finishes q i && accessesDevice q)
-    (answerOf (wordAt p (q .visible .pc)) (q .visible) (length (q .memory)) (i .input) ∷ accessesOf (referenceClock G p q i .state) is)
-    (accessesOf (referenceClock G p q i .state) is)
+      cond (finishes q i && accessesDevice q)
+      (answerOf (wordAt p (q .visible .pc)) (q .visible) (length (q .memory)) (i .input) ∷ accessesOf (referenceClock G p q i .state) is)
+      (accessesOf (referenceClock G p q i .state) is)
 
 -- the answers with a byte other than zero
 unfoldable pub deviceAnswers : List Answer → List Answer

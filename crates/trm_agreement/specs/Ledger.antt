@@ -3,15 +3,15 @@
 -- clocks spent on the one in flight. Assumes nothing.
 --   did G p q pins   what a clock went on        ledgerOf G p q is   those of a list of clocks, the latest first
 --   heldIn, chargesIn, spentIn   its three sums        longest G   the greatest charge
-use Prim.Native.Nat.{ℕ, zero, suc, _+_, _*_, max}
+use Prim.Native.Nat.{ℕ, suc, _+_, _*_, max}
 use mathlib.Core.Path.{_≡_}
 use mathlib.Core.Bool.{cond}
-use mathlib.Core.List.{List, [], _∷_, _++_}
+use mathlib.Core.List.{List, [], _∷_}
 use lib.Dec.{eqb}
 use Rattle.trm_reference.specs.Geometry.{Geometry, burst}
 use Rattle.trm_reference.specs.Visible.{wordAt}
 use Rattle.trm_reference.specs.Interrupt.{stalled, interruptChosen}
-use Rattle.trm_reference.specs.Trace.{Pins, After}
+use Rattle.trm_reference.specs.Trace.{Pins}
 use Rattle.trm_reference.specs.Reference.{Reference, charge, referenceClock}
 
 -- a held clock; an interrupt; a clock of an instruction that goes on; the last clock of one of this charge
@@ -59,10 +59,10 @@ module _ (G : Geometry) (p : List ℕ) where
 
   unfoldable pub did : Reference → Pins → Did
   did q pins =
-    cond (stalled (pins .line)) waited
-    (cond (eqb (q .left) 0)
-    (cond (eqb (interruptChosen (q .visible .status) (pins .line)) 0) (cond (eqb (due q) 1) (finished (due q)) worked) acknowledged)
-    (cond (eqb (q .left) 1) (finished (due q)) worked))
+      cond (stalled (pins .line)) waited
+      (cond (eqb (q .left) 0)
+      (cond (eqb (interruptChosen (q .visible .status) (pins .line)) 0) (cond (eqb (due q) 1) (finished (due q)) worked) acknowledged)
+      (cond (eqb (q .left) 1) (finished (due q)) worked))
 
   -- the ledger of a list of clocks, added to one there is
   unfoldable pub ledgerFrom : Reference → List Pins → List Did → List Did

@@ -35,7 +35,7 @@ module _ {S I O W C A : Type 0} (feed : C → List I) (answer : ℕ → C → Li
   unfoldable pub calls : S → List C → List (Entry O W A)
   calls x [] = []
   calls x (c ∷ cs) =
-    entries (clocksOf x c) ++ ended (answer (E .code x c) c (outsOf (clocksOf x c))) ∷ calls (endOf x (clocksOf x c)) cs
+      entries (clocksOf x c) ++ ended (answer (E .code x c) c (outsOf (clocksOf x c))) ∷ calls (endOf x (clocksOf x c)) cs
 
   unfoldable pub logOf : S → List C → List (Entry O W A)
   logOf x cs = started (E .seen x) ∷ calls x cs

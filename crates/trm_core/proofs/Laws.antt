@@ -1,11 +1,17 @@
 -- The laws of the clocked machine's definitions, one theme to a file.
 -- Idea: callers use these and never unfold the cache.
 -- Assumes nothing.
+pub mod Fit
 pub mod Kind
 pub mod Lines
 pub mod Cache
+pub mod Bursts
 pub mod Dirty
 pub mod Deaf
 pub mod Rule
+pub mod Phases
+pub mod Goes
 pub mod Table
 pub mod Kept
+pub mod Scenario
+pub mod Refused

@@ -6,8 +6,8 @@
 --   writeWord, fillWord   one clock of a burst      countDirty, firstDirty, allEmptied   for turning the cache off
 use Prim.Native.Nat.{ℕ, zero, suc, _+_, _-_, _*_, _%_}
 use mathlib.Core.Bool.{Bool, cond, _&&_}
-use mathlib.Core.List.{List, [], _∷_}
-use lib.ListN.{length, getD, set, take, drop}
+use mathlib.Core.List.{List}
+use lib.ListN.{getD, set, take, drop}
 use lib.Dec.{leb, eqb}
 use Rattle.trm_word.specs.Condition.{isSet}
 use Rattle.trm_reference.specs.Geometry.{Geometry, blockOf, lineOf}

@@ -9,7 +9,6 @@ use mathlib.Core.List.{List}
 use lib.ListN.{length}
 use lib.Dec.{eqb}
 use Rattle.trm_word.specs.Fields.{operation, bit}
-use Rattle.trm_word.specs.Condition.{isSet}
 use Rattle.trm_word.specs.Charge.{chargeOf}
 use Rattle.trm_alu.specs.Word.{flag}
 use Rattle.trm_reference.specs.Geometry.{Geometry, burst, geometryOk}
@@ -17,14 +16,14 @@ use Rattle.trm_reference.specs.Visible.{Visible, wordAt}
 use Rattle.trm_reference.specs.Access.{silent}
 use Rattle.trm_reference.specs.Interrupt.{stalled, interruptChosen, interrupted}
 use Rattle.trm_reference.specs.Charge.{turnsCacheOff, uncachedCharge}
-use Rattle.trm_reference.specs.Trace.{Pins, After}
+use Rattle.trm_reference.specs.Trace.{Pins}
 use Rattle.trm_core.specs.declared.record.Running.{Running}
 use Rattle.trm_core.specs.declared.record.Machine.{Machine}
 use Rattle.trm_core.specs.Cache.{Cache, stride, countDirty}
-use Rattle.trm_core.specs.Record.{Lent, visibleOf, cacheOf, resetOf}
+use Rattle.trm_core.specs.Record.{Lent, visibleOf, cacheOf}
 use Rattle.trm_core.specs.Clock.{chargeHere, carried, worked, heldClock, clockOf}
 use Rattle.trm_core.specs.Rule.{recordOk}
-use Rattle.trm_core.specs.Refusals.{storeOk, resetRefusal, clockRefusal}
+use Rattle.trm_core.specs.Refusals.{storeOk, clockRefusal}
 use Rattle.trm_core.specs.Scenario.{spread, recordDigest, referenceDigest, finishes, phases}
 use Rattle.trm_core.specs.Scenario.{expectedRecordDigest, expectedReferenceDigest, expectedFinishes, expectedPhases}
 use Rattle.trm_core.specs.Refused.{AllGive, rows}
@@ -96,11 +95,11 @@ Deaf =
 pub record Clocked (G : Geometry) (p : List ℕ) (x : Lent) (pins : Pins) : Type 0 where
   pub held : stalled (pins .line) ≡ true → clockOf G p x pins ≡ heldClock G (x .machine) (x .store)
   pub takes : stalled (pins .line) ≡ false → acknowledges (x .machine) pins ≡ true
-    → clockOf G p x pins ≡ carried (x .machine .scalars)
+      → clockOf G p x pins ≡ carried (x .machine .scalars)
       (interrupted (visibleOf (x .machine)) (interruptChosen (x .machine .scalars .status) (pins .line)))
       (cacheOf (x .machine)) (x .store) (silent 0)
   pub works : stalled (pins .line) ≡ false → acknowledges (x .machine) pins ≡ false
-    → clockOf G p x pins
+      → clockOf G p x pins
       ≡ worked G (wordAt p (x .machine .scalars .pc)) (length (x .store)) (x .machine) (x .store) (pins .input)
 
 abbrev pub ClocksAreThree : Type 0

@@ -61,17 +61,17 @@ module _ (G : Geometry) where
   -- the word's last clock: of one clock in phase 0; after 32 steps in phase 1; after 5 or 4 waits in phase 4; phase 5
   unfoldable pub isLast : ℕ → ℕ → Running → Visible → Cache → Bool
   isLast w n r v ca =
-    cond (eqb (r .phase) 0) (eqb (chargeHere w n v ca) 1)
-    (cond (eqb (r .phase) 1) (eqb (r .count + 1) (chargeOf (operation w)))
-    (cond (eqb (r .phase) 4) (eqb (r .count + 1) (uncachedCharge w))
-    (eqb (r .phase) 5)))
+      cond (eqb (r .phase) 0) (eqb (chargeHere w n v ca) 1)
+      (cond (eqb (r .phase) 1) (eqb (r .count + 1) (chargeOf (operation w)))
+      (cond (eqb (r .phase) 4) (eqb (r .count + 1) (uncachedCharge w))
+      (eqb (r .phase) 5)))
 
   -- ST to a block in its line; "one last clock, which empties all lines"
   unfoldable pub cacheAfter : ℕ → ℕ → Visible → Cache → Cache
   cacheAfter w n v ca =
-    cond (throughCache w v n)
-    (cond (isStore w) (storedTo G ca (targetLine G w v n) (target w v n % G .words) (stored w v)) ca)
-    (cond (turnsCacheOff w v) (allEmptied G ca) ca)
+      cond (throughCache w v n)
+      (cond (isStore w) (storedTo G ca (targetLine G w v n) (target w v n % G .words) (stored w v)) ca)
+      (cond (turnsCacheOff w v) (allEmptied G ca) ca)
 
   -- ST past the cache
   unfoldable pub storeAfter : ℕ → ℕ → Visible → List ℕ → List ℕ
@@ -80,48 +80,48 @@ module _ (G : Geometry) where
   -- "What a programmer sees changes only in an instruction's last clock; a device is read or written only in that clock"
   unfoldable pub finish : ℕ → ℕ → Machine → List ℕ → ℕ → After Lent Answer
   finish w n m s i =
-    carried (m .scalars)
-    (execute w (visibleOf m) (loaded w (visibleOf m) n i (view G (cacheOf m) s (target w (visibleOf m) n))))
-    (cacheAfter w n (visibleOf m) (cacheOf m))
-    (storeAfter w n (visibleOf m) s)
-    (answerOf w (visibleOf m) n i)
+      carried (m .scalars)
+      (execute w (visibleOf m) (loaded w (visibleOf m) n i (view G (cacheOf m) s (target w (visibleOf m) n))))
+      (cacheAfter w n (visibleOf m) (cacheOf m))
+      (storeAfter w n (visibleOf m) s)
+      (answerOf w (visibleOf m) n i)
 
   -- a burst of write-back is over, line l being clean: turning the cache off goes on to the next dirty line, or has its last clock
   -- due; an access empties the line and refills it
   unfoldable pub written : Bool → ℕ → Scalars → Cache → List ℕ → Moved
   written off l c ca s =
-    cond off
-    (moved c (cond (eqb (countDirty G ca) 0) (inPhase 5 0) (inPhase 2 0)) ca s 0 1)
-    (moved c (inPhase 3 0) (emptied ca l) s 0 1)
+      cond off
+      (moved c (cond (eqb (countDirty G ca) 0) (inPhase 5 0) (inPhase 2 0)) ca s 0 1)
+      (moved c (inPhase 3 0) (emptied ca l) s 0 1)
 
   -- phase 2: a clock of the write-back of line l, k of them done
   unfoldable pub writing : Bool → ℕ → ℕ → Scalars → Cache → List ℕ → Moved
   writing off l k c ca s =
-    cond (eqb (k + 1) (burst G))
-    (written off l c (cleaned ca l) (writeWord G (lineAt G ca l) s k))
-    (moved c (inPhase 2 (k + 1)) ca (writeWord G (lineAt G ca l) s k) 0 0)
+      cond (eqb (k + 1) (burst G))
+      (written off l c (cleaned ca l) (writeWord G (lineAt G ca l) s k))
+      (moved c (inPhase 2 (k + 1)) ca (writeWord G (lineAt G ca l) s k) 0 0)
 
   -- phase 3: a clock of the refill of line l with block b, k of them done; after the last one the line is full, the last clock due
   unfoldable pub filling : ℕ → ℕ → ℕ → Scalars → Cache → List ℕ → Moved
   filling b l k c ca s =
-    cond (eqb (k + 1) (burst G))
-    (moved c (inPhase 5 0) (filled (fillWord G ca l s b k) l b) s 1 0)
-    (moved c (inPhase 3 (k + 1)) (fillWord G ca l s b k) s 0 0)
+      cond (eqb (k + 1) (burst G))
+      (moved c (inPhase 5 0) (filled (fillWord G ca l s b k) l b) s 1 0)
+      (moved c (inPhase 3 (k + 1)) (fillWord G ca l s b k) s 0 0)
 
   -- the looking clock of a miss: a dirty line is written back first, any other is empty from now on
   unfoldable pub missing : ℕ → Scalars → Cache → List ℕ → Moved
   missing l c ca s =
-    cond (lineAt G ca l .dirty) (moved c (inPhase 2 0) ca s 0 0) (moved c (inPhase 3 0) (emptied ca l) s 0 0)
+      cond (lineAt G ca l .dirty) (moved c (inPhase 2 0) ca s 0 0) (moved c (inPhase 3 0) (emptied ca l) s 0 0)
 
   -- phase 0: the first of several clocks: the first step of 8 and 9; the first wait past the cache; the first clock of the first
   -- write-back when the cache is turned off; the looking clock of a miss; else one clock, and the last is due
   unfoldable pub firstClock : ℕ → ℕ → Scalars → Visible → Cache → List ℕ → Moved
   firstClock w n c v ca s =
-    cond (isStepped w) (moved c (stepping w v 1) ca s 0 0)
-    (cond (pastCache w v n) (moved c (inPhase 4 1) ca s 0 0)
-    (cond (turnsCacheOff w v) (writing true (firstDirty G ca) 0 c ca s)
-    (cond (throughCache w v n && not (hits w n v ca)) (missing (targetLine G w v n) c ca s)
-    (moved c (inPhase 5 0) ca s 0 0))))
+      cond (isStepped w) (moved c (stepping w v 1) ca s 0 0)
+      (cond (pastCache w v n) (moved c (inPhase 4 1) ca s 0 0)
+      (cond (turnsCacheOff w v) (writing true (firstDirty G ca) 0 c ca s)
+      (cond (throughCache w v n && not (hits w n v ca)) (missing (targetLine G w v n) c ca s)
+      (moved c (inPhase 5 0) ca s 0 0))))
 
   -- the line that phase 2 writes back: the lowest dirty one when the cache is turned off, else the line of the access
   unfoldable pub writeLine : ℕ → ℕ → Visible → Cache → ℕ
@@ -130,35 +130,35 @@ module _ (G : Geometry) where
   -- a clock that is not the word's last, by phase; phase 5 has only a last clock
   unfoldable pub advance : ℕ → ℕ → Scalars → Visible → Cache → List ℕ → Moved
   advance w n c v ca s =
-    cond (eqb (c .running .phase) 0) (firstClock w n c v ca s)
-    (cond (eqb (c .running .phase) 1) (moved c (stepping w v (c .running .count + 1)) ca s 0 0)
-    (cond (eqb (c .running .phase) 2) (writing (turnsCacheOff w v) (writeLine w n v ca) (c .running .count) c ca s)
-    (cond (eqb (c .running .phase) 3) (filling (targetBlock G w v n) (targetLine G w v n) (c .running .count) c ca s)
-    (moved c (inPhase 4 (c .running .count + 1)) ca s 0 0))))
+      cond (eqb (c .running .phase) 0) (firstClock w n c v ca s)
+      (cond (eqb (c .running .phase) 1) (moved c (stepping w v (c .running .count + 1)) ca s 0 0)
+      (cond (eqb (c .running .phase) 2) (writing (turnsCacheOff w v) (writeLine w n v ca) (c .running .count) c ca s)
+      (cond (eqb (c .running .phase) 3) (filling (targetBlock G w v n) (targetLine G w v n) (c .running .count) c ca s)
+      (moved c (inPhase 4 (c .running .count + 1)) ca s 0 0))))
 
   -- the word at PC begins or goes on
   unfoldable pub worked : ℕ → ℕ → Machine → List ℕ → ℕ → After Lent Answer
   worked w n m s i =
-    cond (isLast w n (m .scalars .running) (visibleOf m) (cacheOf m)) (finish w n m s i)
-    (quiet (m .regs) (advance w n (m .scalars) (visibleOf m) (cacheOf m) s))
+      cond (isLast w n (m .scalars .running) (visibleOf m) (cacheOf m)) (finish w n m s i)
+      (quiet (m .regs) (advance w n (m .scalars) (visibleOf m) (cacheOf m) s))
 
   -- "An unheld clock with no instruction in flight takes an interrupt if .. Otherwise it begins an instruction."
   unfoldable pub unheld : ℕ → ℕ → Machine → List ℕ → Pins → After Lent Answer
   unheld w n m s pins =
-    cond (eqb (m .scalars .running .phase) 0 && not (eqb (interruptChosen (m .scalars .status) (pins .line)) 0))
-    (carried (m .scalars) (interrupted (visibleOf m) (interruptChosen (m .scalars .status) (pins .line))) (cacheOf m) s (silent 0))
-    (worked w n m s (pins .input))
+      cond (eqb (m .scalars .running .phase) 0 && not (eqb (interruptChosen (m .scalars .status) (pins .line)) 0))
+      (carried (m .scalars) (interrupted (visibleOf m) (interruptChosen (m .scalars .status) (pins .line))) (cacheOf m) s (silent 0))
+      (worked w n m s (pins .input))
 
   -- "A clock with stall set is held: it adds one to the clock and held counts and does nothing else."
   unfoldable pub heldClock : Machine → List ℕ → After Lent Answer
   heldClock m s =
-    record {
-      state = record { machine = whole (waited (m .scalars)) (m .regs) (cacheOf m); store = s };
-      out = silent 0;
-    }
+      record {
+        state = record { machine = whole (waited (m .scalars)) (m .regs) (cacheOf m); store = s };
+        out = silent 0;
+      }
 
   unfoldable pub clockOf : List ℕ → Lent → Pins → After Lent Answer
   clockOf p x pins =
-    cond (stalled (pins .line))
-    (heldClock (x .machine) (x .store))
-    (unheld (wordAt p (x .machine .scalars .pc)) (length (x .store)) (x .machine) (x .store) pins)
+      cond (stalled (pins .line))
+      (heldClock (x .machine) (x .store))
+      (unheld (wordAt p (x .machine .scalars .pc)) (length (x .store)) (x .machine) (x .store) pins)

@@ -14,7 +14,6 @@ use Rattle.trm_alu.specs.Divide.{divRem, divQuot}
 use Rattle.trm_reference.specs.Geometry.{Geometry}
 use Rattle.trm_reference.specs.Visible.{Visible}
 use Rattle.trm_reference.specs.Execute.{operandA, operandB}
-use Rattle.trm_core.specs.declared.record.Counts.{Counts}
 use Rattle.trm_core.specs.declared.record.Running.{Running}
 use Rattle.trm_core.specs.declared.record.Scalars.{Scalars}
 use Rattle.trm_core.specs.declared.record.Machine.{Machine}
@@ -24,7 +23,14 @@ use Rattle.trm_core.specs.Cache.{Cache, cache, stride}
 abbrev pub gathered : Scalars → List ℕ → Visible
 gathered c rs =
     record {
-      pc = c .pc; regs = rs; h = c .h; n = c .n; z = c .z; c = c .c; v = c .v; status = c .status;
+      pc = c .pc;
+      regs = rs;
+      h = c .h;
+      n = c .n;
+      z = c .z;
+      c = c .c;
+      v = c .v;
+      status = c .status;
     }
 
 abbrev pub visibleOf : Machine → Visible
@@ -36,7 +42,12 @@ cacheOf m = cache (m .full) (m .dirty) (m .block) (m .words)
 abbrev pub whole : Scalars → List ℕ → Cache → Machine
 whole c rs ca =
     record {
-      scalars = c; regs = rs; full = ca .full; dirty = ca .dirty; block = ca .block; words = ca .words;
+      scalars = c;
+      regs = rs;
+      full = ca .full;
+      dirty = ca .dirty;
+      block = ca .block;
+      words = ca .words;
     }
 
 -- a record with a store: what a clock moves
@@ -58,7 +69,11 @@ quotientAt w v k = cond (eqb (operation w) 9) (divQuot (operandA w v) (operandB 
 abbrev pub stepping : ℕ → Visible → ℕ → Running
 stepping w v k =
     record {
-      phase = 1; count = k; product = productAt w v k; remainder = remainderAt w v k; quotient = quotientAt w v k;
+      phase = 1;
+      count = k;
+      product = productAt w v k;
+      remainder = remainderAt w v k;
+      quotient = quotientAt w v k;
     }
 
 -- "Outside phase 1 .. these registers are zero"
@@ -69,7 +84,13 @@ inPhase phase count = record { phase = phase; count = count; product = 0; remain
 abbrev pub advanced : Scalars → Running → ℕ → ℕ → Scalars
 advanced c r refilled written =
     record {
-      pc = c .pc; h = c .h; n = c .n; z = c .z; c = c .c; v = c .v; status = c .status;
+      pc = c .pc;
+      h = c .h;
+      n = c .n;
+      z = c .z;
+      c = c .c;
+      v = c .v;
+      status = c .status;
       running = r;
       size = c .size;
       counts = record {
@@ -84,7 +105,13 @@ advanced c r refilled written =
 abbrev pub ended : Scalars → Visible → Scalars
 ended c v =
     record {
-      pc = v .pc; h = v .h; n = v .n; z = v .z; c = v .c; v = v .v; status = v .status;
+      pc = v .pc;
+      h = v .h;
+      n = v .n;
+      z = v .z;
+      c = v .c;
+      v = v .v;
+      status = v .status;
       running = inPhase 0 0;
       size = c .size;
       counts = record {
@@ -99,7 +126,13 @@ ended c v =
 abbrev pub waited : Scalars → Scalars
 waited c =
     record {
-      pc = c .pc; h = c .h; n = c .n; z = c .z; c = c .c; v = c .v; status = c .status;
+      pc = c .pc;
+      h = c .h;
+      n = c .n;
+      z = c .z;
+      c = c .c;
+      v = c .v;
+      status = c .status;
       running = c .running;
       size = c .size;
       counts = record {
@@ -115,7 +148,13 @@ unfoldable pub resetOf : Geometry → List ℕ → Machine
 resetOf G s =
     record {
       scalars = record {
-        pc = 0; h = 0; n = 0; z = 0; c = 0; v = 0; status = 0;
+        pc = 0;
+        h = 0;
+        n = 0;
+        z = 0;
+        c = 0;
+        v = 0;
+        status = 0;
         running = inPhase 0 0;
         size = length s;
         counts = record { clocks = 0; held = 0; refills = 0; writebacks = 0 };

@@ -45,9 +45,9 @@ module _ (G : Geometry) where
   -- "2 write-back, 0–9, on a full dirty line"; "2 needs 12 or 13 to memory, its line holding another block, or 11 clearing bit 3"
   unfoldable pub writebackOk : ℕ → ℕ → ℕ → Visible → Cache → Bool
   writebackOk w n count v ca =
-    ltb count (burst G)
-    && cond (toMemory w v n) (lineFor G w n v ca .full && lineFor G w n v ca .dirty && not (hits G w n v ca))
-       (turnsCacheOff w v && not (eqb (countDirty G ca) 0))
+      ltb count (burst G)
+      && cond (toMemory w v n) (lineFor G w n v ca .full && lineFor G w n v ca .dirty && not (hits G w n v ca))
+      (turnsCacheOff w v && not (eqb (countDirty G ca) 0))
 
   -- "3 refill, 0–9"; "3 and 4 need 12 or 13 to memory, cache on and off, in 3 the line empty"
   unfoldable pub refillOk : ℕ → ℕ → ℕ → Visible → Cache → Bool
@@ -61,30 +61,30 @@ module _ (G : Geometry) where
   -- its block in the line"
   unfoldable pub dueOk : ℕ → ℕ → Visible → Cache → Bool
   dueOk w n v ca =
-    takesBranch w v
-    || eqb (operation w) 15
-    || isJump w
-    || (turnsCacheOff w v && eqb (countDirty G ca) 0)
-    || (isLoad w && toDevice w v n)
-    || (toMemory w v n && hits G w n v ca)
+      takesBranch w v
+      || eqb (operation w) 15
+      || isJump w
+      || (turnsCacheOff w v && eqb (countDirty G ca) 0)
+      || (isLoad w && toDevice w v n)
+      || (toMemory w v n && hits G w n v ca)
 
   -- "0 ready, 0 .. 5 last clock due, 0"
   unfoldable pub phaseOk : ℕ → ℕ → Running → Visible → Cache → Bool
   phaseOk w n r v ca =
-    cond (eqb (r .phase) 0) (eqb (r .count) 0)
-    (cond (eqb (r .phase) 1) (arithmeticOk w (r .count))
-    (cond (eqb (r .phase) 2) (writebackOk w n (r .count) v ca)
-    (cond (eqb (r .phase) 3) (refillOk w n (r .count) v ca)
-    (cond (eqb (r .phase) 4) (waitOk w n (r .count) v)
-    (eqb (r .phase) 5 && eqb (r .count) 0 && dueOk w n v ca)))))
+      cond (eqb (r .phase) 0) (eqb (r .count) 0)
+      (cond (eqb (r .phase) 1) (arithmeticOk w (r .count))
+      (cond (eqb (r .phase) 2) (writebackOk w n (r .count) v ca)
+      (cond (eqb (r .phase) 3) (refillOk w n (r .count) v ca)
+      (cond (eqb (r .phase) 4) (waitOk w n (r .count) v)
+      (eqb (r .phase) 5 && eqb (r .count) 0 && dueOk w n v ca)))))
 
   -- "a full line whose block is outside the store or belongs to another line, a full line with cache off, an empty line dirty or with a
   -- block other than 0"
   unfoldable pub lineOk : Bool → ℕ → ℕ → Line → Bool
   lineOk on n l ln =
-    cond (ln .full)
-    (on && eqb (lineOf G (ln .block)) l && leb (ln .block * G .words + G .words) n)
-    (not (ln .dirty) && eqb (ln .block) 0)
+      cond (ln .full)
+      (on && eqb (lineOf G (ln .block)) l && leb (ln .block * G .words + G .words) n)
+      (not (ln .dirty) && eqb (ln .block) 0)
 
   -- each of full and dirty has one bit
   unfoldable pub marksOk : Cache → ℕ → Bool
@@ -102,8 +102,8 @@ module _ (G : Geometry) where
   -- row 5; "The operation is that of the word at PC"
   unfoldable pub recordOk : List ℕ → ℕ → Machine → Bool
   recordOk p n m =
-    widthsOk (visibleOf m)
-    && phaseOk G (wordAt p (m .scalars .pc)) n (m .scalars .running) (visibleOf m) (cacheOf m)
-    && registersOk (wordAt p (m .scalars .pc)) (m .scalars .running) (visibleOf m)
-    && countsOk (m .scalars .counts)
-    && linesOk (cacheOn (visibleOf m)) n (cacheOf m)
+      widthsOk (visibleOf m)
+      && phaseOk G (wordAt p (m .scalars .pc)) n (m .scalars .running) (visibleOf m) (cacheOf m)
+      && registersOk (wordAt p (m .scalars .pc)) (m .scalars .running) (visibleOf m)
+      && countsOk (m .scalars .counts)
+      && linesOk (cacheOn (visibleOf m)) n (cacheOf m)

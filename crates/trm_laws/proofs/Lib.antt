@@ -1,5 +1,6 @@
 -- Laws of general use, one theme to a file.
--- `Match`: what is left after the arms of a match. `Table`: a computed test of a table gives the equations of its rows.
+-- `Match`: what is left after the arms of a match. `Table`: one computed test gives a table's rows. `Tests`: laws of Bool tests.
 -- Assumes nothing.
 pub mod Match
 pub mod Table
+pub mod Tests

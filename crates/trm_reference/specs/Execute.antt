@@ -3,7 +3,7 @@
 -- Assumes nothing.
 --   execute w v x   all that is seen once the word w is carried out
 use Prim.Native.Nat.{ℕ, _+_, _%_}
-use mathlib.Core.Bool.{Bool, cond, _||_}
+use mathlib.Core.Bool.{Bool, cond}
 use lib.Dec.{ltb, eqb}
 use Rattle.trm_word.specs.Fields.{operation, destination, source, literal, newStatus, jumpForm, condition, branchOffset}
 use Rattle.trm_word.specs.Fields.{callOffset, movesHigh, bit, lowBits}

@@ -4,7 +4,7 @@
 -- holds none." The latest event comes first. Assumes nothing.
 --   refillsNow G h b   an access to block b refills      dirtyNow G h l   line l is dirty      dirtyLines G h   how many are
 use Prim.Native.Nat.{ℕ, zero, suc, _+_}
-use mathlib.Core.Bool.{Bool, true, false, cond, not, _||_}
+use mathlib.Core.Bool.{Bool, false, cond, not, _||_}
 use mathlib.Core.List.{List, [], _∷_}
 use lib.Dec.{eqb}
 use Rattle.trm_reference.specs.Geometry.{Geometry, lineOf}

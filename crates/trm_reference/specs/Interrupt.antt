@@ -3,7 +3,7 @@
 -- is high, line 0 before line 1: bank 1's R7 := NZCV in bits 31–28, zeros, PC in bits 11–0; mode 1; PC 2 or 3". Assumes nothing.
 --   interruptChosen status line   the PC that the interrupt goes to, 2 or 3, and 0 if none is taken
 use Prim.Native.Nat.{ℕ, _+_, _*_, _^_}
-use mathlib.Core.Bool.{Bool, cond, not, _&&_, _||_}
+use mathlib.Core.Bool.{Bool, cond, _&&_}
 use lib.ListN.{set}
 use Rattle.trm_word.specs.Fields.{bit}
 use Rattle.trm_word.specs.Condition.{isSet}

@@ -1,10 +1,8 @@
 -- Every charge is above 0 and at most the longest.
 -- Idea: by the kind of the word; the dirty lines are at most all lines.
 -- Assumes nothing.
-use Prim.Native.Nat.{ℕ, zero, suc, _+_, _*_, _≤_, _<_, max}
-use mathlib.Core.Path.{_≡_, refl, sym, ap, _∙_}
-use mathlib.Core.Bool.{Bool, true, false, cond, not}
-use mathlib.Core.List.{List}
+use Prim.Native.Nat.{ℕ, _≤_, _<_}
+use mathlib.Core.Bool.{Bool, true, false}
 use lib.ListN.{length}
 use native.Mathlib.Omega.{arith}
 use native.Mathlib.Nat.{mul-le-mul-left}
@@ -14,9 +12,9 @@ use Rattle.trm_reference.specs.Access.{isStore}
 use Rattle.trm_reference.specs.History.{dirtyNow, dirtyLines}
 use Rattle.trm_reference.specs.Charge.{missCharge, chargeBy}
 use Rattle.trm_reference.specs.Reference.{Reference, charge, misses, evicts}
-use Rattle.trm_core.specs.Cache.{Cache, countDirty}
-use Rattle.trm_core.specs.Clock.{chargeHere, hits, lineFor}
-use Rattle.trm_core.proofs.Laws.Kind.{Kind, quick, second, longer, device, cached, uncached, clearing, kindOf, Is, kind-is, chargeOfKind}
+use Rattle.trm_core.specs.Cache.{Cache}
+use Rattle.trm_core.specs.Clock.{chargeHere}
+use Rattle.trm_core.proofs.Laws.Kind.{Kind, quick, second, longer, device, cached, uncached, clearing, kindOf, kind-is, chargeOfKind}
 use Rattle.trm_core.proofs.Laws.Dirty.{howMany-le}
 use Rattle.trm_agreement.specs.Ledger.{longest}
 
@@ -66,5 +64,5 @@ module _ (G : Geometry) where
   unfolding charge
   charge-bounded w q = rw
       (kind-is w (q .visible) (length (q .memory)) .charge G (misses G w q) (evicts G w q) (dirtyLines G (q .history)))
-    (kind-bounded (kindOf w (q .visible) (length (q .memory))) (isStore w) (misses G w q) (evicts G w q) (dirtyLines G (q .history))
+      (kind-bounded (kindOf w (q .visible) (length (q .memory))) (isStore w) (misses G w q) (evicts G w q) (dirtyLines G (q .history))
       (unfold dirtyLines in howMany-le (G .lines) (dirtyNow G (q .history))))

@@ -1,70 +1,59 @@
 -- Demand 3: from an accepted reset the two machines are in step, so every list of calls gives one log.
--- Idea: the relation with room for the clocks of a call that row 8 lets through; a reset's geometry by computed tests.
+-- Idea: the relation with room for the clocks of a call that row 8 lets through; it holds after a reset, and every clock keeps it.
 -- Assumes nothing.
-use Prim.Native.Nat.{ℕ, zero, suc, _+_, _-_, _*_, _/_, _%_, _^_, _≤_, _<_}
-use mathlib.Core.Path.{_≡_, refl, sym, ap, ap₂, _∙_}
-use mathlib.Core.Logic.{_≢_}
-use mathlib.Core.Bool.{Bool, true, false, cond, not, _&&_, _||_}
+use Prim.Native.Nat.{ℕ, suc, _+_, _-_, _*_, _≤_, _<_}
+use mathlib.Core.Path.{_≡_, refl, sym, ap, _∙_}
+use mathlib.Core.Bool.{Bool, true, false, cond, not, _||_}
 use mathlib.Core.List.{List, [], _∷_}
 use lib.ListN.{length, getD, drop, replicate, getD-replicate, length-drop, length-replicate}
 use lib.Seq.{length-take-le}
-use lib.Dec.{eqb, leb, ltb}
-use borrow.Author.Tests.{eqb-true, eqb-false, eq-eqb, ne-eqb, ltb-true, ltb-false, leb-true}
+use lib.Dec.{eqb, ltb}
+use borrow.Author.Tests.{eqb-true, eq-eqb, ltb-false}
 use native.Mathlib.Omega.{arith}
-use native.Mathlib.Nat.{div-lt-iff-lt-mul, div-add-mod', mul-le-mul-right, suc-mul, le-trans}
-use Rattle.trm_word.specs.Address.{isPower, storeLengthExponents, storeLengthOk}
-use Rattle.trm_reference.specs.Geometry.{Geometry, burst, blockOf, lineOf, oneOf, lineCounts, wordCounts, geometryOk}
-use Rattle.trm_reference.specs.Visible.{Visible, wordAt, resetVisible, cacheOn}
+use native.Mathlib.Nat.{mul-le-mul-right, suc-mul}
+use Rattle.trm_laws.proofs.Tests.{bool-clash, chosen}
+use Rattle.trm_word.specs.Address.{storeLengthOk}
+use Rattle.trm_reference.specs.Geometry.{Geometry, blockOf, lineOf, geometryOk}
+use Rattle.trm_reference.specs.Visible.{wordAt, resetVisible}
 use Rattle.trm_reference.specs.Access.{Answer}
 use Rattle.trm_reference.specs.Interrupt.{stalled, interruptChosen}
 use Rattle.trm_reference.specs.History.{since}
 use Rattle.trm_reference.specs.Trace.{Pins, After, pinsOf}
-use Rattle.trm_reference.specs.Reference.{Reference, charge, carryOut, spend, takeOff, referenceHeld, referenceInterrupt}
-use Rattle.trm_reference.specs.Reference.{referenceUnheld, referenceClock, referenceReset}
-use Rattle.trm_core.specs.declared.record.Machine.{Machine}
-use Rattle.trm_core.specs.Cache.{Cache, cache, Line, stride, lineAt, view}
-use Rattle.trm_core.specs.Record.{Lent, visibleOf, cacheOf, resetOf, inPhase}
+use Rattle.trm_reference.specs.Reference.{Reference, charge, carryOut, spend, takeOff, referenceHeld, referenceInterrupt, referenceUnheld}
+use Rattle.trm_reference.specs.Reference.{referenceClock, referenceReset}
+use Rattle.trm_core.specs.Cache.{Cache, cache, stride, lineAt, view}
+use Rattle.trm_core.specs.Record.{Lent, cacheOf, resetOf}
 use Rattle.trm_core.specs.Clock.{clockOf}
 use Rattle.trm_core.specs.Refusals.{allAtMost, programOk, storeOk, recordRows, countRow, clockRows, linesRefused, runRows, resetRefusal}
 use Rattle.trm_core.specs.Refusals.{clockRefusal, runRefusal}
 use Rattle.trm_core.specs.Rule.{recordOk}
-use Rattle.trm_core.proofs.Laws.Cache.{LineOk, Sane, bool-clash, empty-view}
+use Rattle.trm_core.proofs.Laws.Fit.{Fit, fit, any-line-in}
+use Rattle.trm_core.proofs.Laws.Cache.{Sane, empty-view}
 use Rattle.trm_core.proofs.Laws.Dirty.{copy-is}
-use Rattle.trm_agreement.specs.Log.{Engine, logOf, codesOf}
-use Rattle.trm_agreement.specs.Calls.{Call, clockCall, runCall, feed, answer, Seen, recordSeen, recordCode, recordEngine}
-use Rattle.trm_agreement.specs.Calls.{referenceSeen, ownRows, referenceCode, referenceEngine}
+use Rattle.trm_agreement.specs.Log.{logOf, codesOf}
+use Rattle.trm_agreement.specs.Calls.{Call, clockCall, runCall, feed, answer, recordSeen, recordCode, recordEngine, referenceSeen}
+use Rattle.trm_agreement.specs.Calls.{ownRows, referenceCode, referenceEngine}
 use Rattle.trm_agreement.proofs.Laws.Simulate.{Together, log-alike, codes-alike}
-use Rattle.trm_agreement.proofs.Laws.History.{Judged, Matches, judged-none}
-use Rattle.trm_agreement.proofs.Laws.Relation.{Extra, plainOf, Fits, Common, ready, Related, Agree}
-use Rattle.trm_agreement.proofs.Laws.Finish.{any-line-in}
+use Rattle.trm_agreement.proofs.Laws.History.{judged-none}
+use Rattle.trm_agreement.proofs.Laws.Relation.{Extra, plainOf, Common, ready, Related, Agree}
 use Rattle.trm_agreement.proofs.Laws.Clock.{clock-step}
 use Rattle.trm_agreement.proofs.Laws.Accepted.{accepted}
-use Rattle.trm_agreement.proofs.Laws.Fits.{fits-all}
 
 -- each clock of the reference machine adds one
-record Next (n : ℕ) (u : After Reference Answer) : Type 0 where
-  next : u .state .clocks ≡ n
-
-next-cond : (t : Bool) {n : ℕ} {u v : After Reference Answer} → Next n u → Next n v → Next n (cond t u v)
-next-cond true a b = a
-next-cond false a b = b
-
 pub clock-next : (G : Geometry) (p : List ℕ) (q : Reference) (pins : Pins) → referenceClock G p q pins .state .clocks ≡ q .clocks + 1
 unfolding referenceClock referenceHeld referenceUnheld referenceInterrupt takeOff carryOut spend
-clock-next G p q pins = all .next
+clock-next G p q pins = chosen Next (stalled (pins .line)) refl
+    (chosen Next (eqb (q .left) 0) (chosen Next (eqb (interruptChosen (q .visible .status) (pins .line)) 0) (off (charge G w q)) refl)
+    (off (q .left)))
   where
     w : ℕ
     w = wordAt p (q .visible .pc)
-    one : (u : After Reference Answer) → u .state .clocks ≡ q .clocks + 1 → Next (q .clocks + 1) u
-    one u e = record { next = e }
-    off : (n : ℕ) → Next (q .clocks + 1) (takeOff G w q n (pins .input))
-    off n = next-cond (eqb n 1) (one (carryOut G w q (pins .input)) refl) (one (spend G w q (n - 1)) refl)
-    all : Next (q .clocks + 1) (referenceClock G p q pins)
-    all = next-cond (stalled (pins .line)) (one (referenceHeld q) refl)
-      (next-cond (eqb (q .left) 0)
-        (next-cond (eqb (interruptChosen (q .visible .status) (pins .line)) 0) (off (charge G w q))
-          (one (referenceInterrupt (interruptChosen (q .visible .status) (pins .line)) q) refl))
-        (off (q .left)))
+
+    Next : After Reference Answer → Type 0
+    Next u = u .state .clocks ≡ q .clocks + 1
+
+    off : (n : ℕ) → Next (takeOff G w q n (pins .input))
+    off n = chosen Next (eqb n 1) {a = carryOut G w q (pins .input)} {b = spend G w q (n - 1)} refl refl
 
 length-pins : (ls is : List ℕ) → length ls ≡ length is → length (pinsOf ls is) ≡ length ls
 unfolding pinsOf
@@ -86,29 +75,42 @@ module _ (G : Geometry) (p : List ℕ) where
     where
       rm : x .machine .scalars .counts .clocks + suc n ≤ 4294967295
       rm = rw (t .plain) at (t .room)
+
       go : Agree G p (clockOf G p x pins) (referenceClock G p (plainOf (x .machine) (t .extra)) pins)
-        → Together (Tied n) (clockOf G p x pins) (referenceClock G p (plainOf (x .machine) (t .extra)) pins)
-      go a = record { state = record { extra = a .extra; plain = a .plain; related = a .related;
-        room = rw (clock-next G p (plainOf (x .machine) (t .extra)) pins) (omega (arith, rm)) }; out = a .out }
+          → Together (Tied n) (clockOf G p x pins) (referenceClock G p (plainOf (x .machine) (t .extra)) pins)
+      go a = record {
+        state = record {
+          extra = a .extra;
+          plain = a .plain;
+          related = a .related;
+          room = rw (clock-next G p (plainOf (x .machine) (t .extra)) pins) (omega (arith, rm));
+        };
+        out = a .out;
+      }
 
   tied-seen : (n : ℕ) (x : Lent) (q : Reference) → Tied n x q → recordSeen G p x ≡ referenceSeen G p q
   unfolding recordSeen referenceSeen
-  tied-seen n x q t = rw (t .plain, copy-is G (cacheOf (x .machine)) (x .store) (t .extra .memory) (c .size ∙ sym (c .memory))
-      (λ a h. c .view a (rw (c .size) at h)))
+  tied-seen n x q t = rw (
+    t .plain,
+    copy-is G (cacheOf (x .machine)) (x .store) (t .extra .memory) (c .size ∙ sym (c .memory))
+        (λ a h. c .view a (rw (c .size) at h)),
+  )
     where
       c : Common G (x .machine) (x .store) (t .extra)
       c = t .related .common
 
   -- rows 4 and 5 let a record in step through
   rows-are : (x : Lent) (q : Reference) (rest : ℕ) → Tied 0 x q
-    → recordRows G p (x .machine) (x .store) rest ≡ cond (not (programOk p)) 3 rest
+      → recordRows G p (x .machine) (x .store) rest ≡ cond (not (programOk p)) 3 rest
   unfolding recordRows storeOk
-  rows-are x q rest t = rw (c .size, c .fits .legal, eq-eqb (x .machine .scalars .size) (x .machine .scalars .size) refl, fifth)
+  rows-are x q rest t = rw (c .size, c .legal, eq-eqb (x .machine .scalars .size) (x .machine .scalars .size) refl, fifth)
     where
       c : Common G (x .machine) (x .store) (t .extra)
       c = t .related .common
+
       few : x .machine .scalars .counts .clocks ≤ 4294967295
       few = let h : x .machine .scalars .counts .clocks + 0 ≤ 4294967295 = rw (t .plain) at (t .room) in omega arith
+
       fifth : recordOk G p (x .machine .scalars .size) (x .machine) ≡ true
       fifth = accepted G p (x .machine) (x .store) (t .extra) (omega (arith, few)) (t .related)
 
@@ -116,7 +118,7 @@ module _ (G : Geometry) (p : List ℕ) where
   unfolding recordCode referenceCode ownRows clockRefusal runRefusal
   tied-code x q (clockCall line input) t = rw (t .plain) (rows-are x q (clockRows (x .machine .scalars .counts .clocks) line) t)
   tied-code x q (runCall lines inputs bytes words) t =
-    rw (t .plain) (rows-are x q (runRows (x .machine .scalars .counts .clocks) lines inputs bytes words) t)
+      rw (t .plain) (rows-are x q (runRows (x .machine .scalars .counts .clocks) lines inputs bytes words) t)
 
   -- row 8 leaves room for the clocks of a call that it lets through
   count-room : (k n : ℕ) → countRow k n ≡ 0 → k + n ≤ 4294967295
@@ -136,11 +138,11 @@ module _ (G : Geometry) (p : List ℕ) where
       go false y = count-room k 1 y
   own-room k (runCall lines inputs bytes words) =
       go (eqb (length lines) (length inputs)) refl (ltb 65536 (length lines)) (not (allAtMost 7 lines))
-        (not (eqb (length bytes) (length lines)) || not (eqb (length words) (length lines)))
+      (not (eqb (length bytes) (length lines)) || not (eqb (length words) (length lines)))
     where
       go : (same : Bool) → eqb (length lines) (length inputs) ≡ same → (long bad other : Bool)
-        → cond (not same || long || bad) 6 (cond other 7 (countRow k (length lines))) ≡ 0
-        → k + length (pinsOf lines inputs) ≤ 4294967295
+          → cond (not same || long || bad) 6 (cond other 7 (countRow k (length lines))) ≡ 0
+          → k + length (pinsOf lines inputs) ≤ 4294967295
       go true e false false false y = rw (length-pins lines inputs (eqb-true (length lines) (length inputs) e))
           (count-room k (length lines) y)
       go true e false false true y = absurd (omega arith)
@@ -170,8 +172,11 @@ module _ (G : Geometry) (p s : List ℕ) where
   first-line : (l : ℕ) → l < G .lines
       → (lineAt G first l .full ≡ false) × (lineAt G first l .dirty ≡ false) × (lineAt G first l .block ≡ 0)
   unfolding lineAt first zeros
-  first-line l h = ((rw (getD-replicate {A = ℕ} (G .lines) l 0 0 h)), (rw (getD-replicate {A = ℕ} (G .lines) l 0 0 h)),
-      (rw (getD-replicate {A = ℕ} (G .lines) l 0 0 h)))
+  first-line l h = (
+    (rw (getD-replicate {A = ℕ} (G .lines) l 0 0 h)),
+    (rw (getD-replicate {A = ℕ} (G .lines) l 0 0 h)),
+    (rw (getD-replicate {A = ℕ} (G .lines) l 0 0 h)),
+  )
 
   first-wide : (l : ℕ) → l < G .lines → G .words ≤ length (lineAt G first l .words)
   unfolding lineAt first zeros
@@ -179,52 +184,79 @@ module _ (G : Geometry) (p s : List ℕ) where
     where
       enough : stride G ≤ length (drop (l * stride G) (zeros (G .lines * stride G)))
       enough = rw (length-drop (l * stride G) (zeros (G .lines * stride G)), length-zeros)
-        (omega (arith, mul-le-mul-right (stride G) h, suc-mul l (stride G)))
+          (omega (arith, mul-le-mul-right (stride G) h, suc-mul l (stride G)))
 
-  tied-reset : Fits G (length s) → Tied G p 0 (record { machine = resetOf G s; store = s }) (referenceReset s)
+  tied-reset : Fit G (length s) → storeLengthOk (length s) ≡ true
+      → Tied G p 0 (record { machine = resetOf G s; store = s }) (referenceReset s)
   unfolding resetOf referenceReset resetVisible first zeros
-  tied-reset g = record { extra = record { memory = s; history = []; left = 0 }; plain = refl; room = omega arith;
+  tied-reset g legal = record {
+    extra = record { memory = s; history = []; left = 0 };
+    plain = refl;
+    room = omega arith;
     related = record {
-      common = record { size = refl; memory = refl; view = through; sane = sane; off = λ q l h. first-line l h .0; fits = g;
+      common = record {
+        size = refl;
+        memory = refl;
+        view = through;
+        sane = sane;
+        off = λ q l h. first-line l h .0;
+        fit = g;
+        legal = legal;
         narrow = record { pc = omega arith; n = omega arith; z = omega arith; c = omega arith; v = omega arith; status = omega arith };
-        counted = record { held = omega arith; refills = omega arith; writebacks = omega arith } };
-      flight = ready refl refl (λ l h. unfold since in judged-none (lineAt G first l) (first-line l h .0) (first-line l h .1)) } }
+        counted = record { held = omega arith; refills = omega arith; writebacks = omega arith };
+      };
+      flight = ready refl refl (λ l h. unfold since in judged-none (lineAt G first l) (first-line l h .0) (first-line l h .1));
+    };
+  }
     where
       sane : Sane G first s
-      sane = record { wide = record { full = rw length-zeros (omega arith); dirty = rw length-zeros (omega arith);
-          block = rw length-zeros (omega arith); words = rw length-zeros (omega arith);
+      sane = record {
+        wide = record {
+          full = rw length-zeros (omega arith);
+          dirty = rw length-zeros (omega arith);
+          block = rw length-zeros (omega arith);
+          words = rw length-zeros (omega arith);
           fullMark = λ k h. rw (getD-replicate {A = ℕ} (G .lines) k 0 0 h) (omega arith);
-          dirtyMark = λ k h. rw (getD-replicate {A = ℕ} (G .lines) k 0 0 h) (omega arith) };
-        each = λ l h. record { wide = first-wide l h;
+          dirtyMark = λ k h. rw (getD-replicate {A = ℕ} (G .lines) k 0 0 h) (omega arith);
+        };
+        each = λ l h. record {
+          wide = first-wide l h;
           home = λ q. bool-clash (lineAt G first l .full) q (first-line l h .0);
           inside = λ q. bool-clash (lineAt G first l .full) q (first-line l h .0);
-          emptyClean = λ q. first-line l h .1; emptyZero = λ q. first-line l h .2;
-          agrees = λ q d i hi. bool-clash (lineAt G first l .full) q (first-line l h .0) } }
+          emptyClean = λ q. first-line l h .1;
+          emptyZero = λ q. first-line l h .2;
+          agrees = λ q d i hi. bool-clash (lineAt G first l .full) q (first-line l h .0);
+        };
+      }
+
       through : (a : ℕ) → a < length s → view G first s a ≡ getD s a 0
       through a h = unfold view in (empty-view G (g .wpos) s (lineAt G first (lineOf G (blockOf G a))) a
-        (first-line (lineOf G (blockOf G a)) (any-line-in G (length s) g (blockOf G a)) .0))
+          (first-line (lineOf G (blockOf G a)) (any-line-in G (g .lpos) (blockOf G a)) .0))
 
   -- reset takes the store alone
-  reset-fits : geometryOk G ≡ true → resetRefusal s ≡ 0 → Fits G (length s)
+  reset-legal : resetRefusal s ≡ 0 → storeLengthOk (length s) ≡ true
   unfolding resetRefusal
-  reset-fits e r = fits-all G (length s) e (go (storeLengthOk (length s)) r)
+  reset-legal r = go (storeLengthOk (length s)) r
     where
       go : (t : Bool) → _≡_ {A = ℕ} (cond t 0 4) 0 → t ≡ true
       go true y = refl
       go false y = absurd (omega arith)
 
+  reset-tied : geometryOk G ≡ true → resetRefusal s ≡ 0 → Tied G p 0 (record { machine = resetOf G s; store = s }) (referenceReset s)
+  reset-tied e r = tied-reset (fit G (length s) e (reset-legal r)) (reset-legal r)
+
   pub same-log : (cs : List Call) → geometryOk G ≡ true → resetRefusal s ≡ 0
-    → logOf feed answer (recordEngine G p) (record { machine = resetOf G s; store = s }) cs
+      → logOf feed answer (recordEngine G p) (record { machine = resetOf G s; store = s }) cs
       ≡ logOf feed answer (referenceEngine G p) (referenceReset s) cs
   unfolding recordEngine referenceEngine
   same-log cs e r = log-alike feed answer (recordEngine G p) (referenceEngine G p) (Tied G p) (tied-step G p) (tied-seen G p)
       (tied-code G p)
-    (tied-room G p) (record { machine = resetOf G s; store = s }) (referenceReset s) cs (tied-reset (reset-fits e r))
+      (tied-room G p) (record { machine = resetOf G s; store = s }) (referenceReset s) cs (reset-tied e r)
 
   pub same-codes : (cs : List Call) → geometryOk G ≡ true → resetRefusal s ≡ 0
-    → codesOf feed answer (recordEngine G p) (record { machine = resetOf G s; store = s }) cs
+      → codesOf feed answer (recordEngine G p) (record { machine = resetOf G s; store = s }) cs
       ≡ codesOf feed answer (referenceEngine G p) (referenceReset s) cs
   unfolding recordEngine referenceEngine
   same-codes cs e r = codes-alike feed answer (recordEngine G p) (referenceEngine G p) (Tied G p) (tied-step G p) (tied-seen G p)
       (tied-code G p)
-    (tied-room G p) (record { machine = resetOf G s; store = s }) (referenceReset s) cs (tied-reset (reset-fits e r))
+      (tied-room G p) (record { machine = resetOf G s; store = s }) (referenceReset s) cs (reset-tied e r)

@@ -1,31 +1,30 @@
 -- Devices and quiet clocks: an answer is told by the clock that carries its word out and by no other, in the order of the words.
--- Idea: a nominal record passes through the machine's tests (`told-cond`), so no text of a definition is repeated.
+-- Idea: `Shows` says of a clock what it tells and leaves, by whether it finishes a word or takes an interrupt; the tests are split once.
 -- Assumes nothing.
-use Prim.Native.Nat.{ℕ, zero, suc, _+_, _-_, _*_, _/_, _%_, _^_, _≤_, _<_}
-use mathlib.Core.Path.{_≡_, refl, sym, ap, ap₂, _∙_}
-use mathlib.Core.Logic.{_≢_}
-use mathlib.Core.Bool.{Bool, true, false, cond, not, _&&_, _||_}
-use mathlib.Core.List.{List, [], _∷_, _++_}
-use lib.ListN.{length, getD, set, length-set}
+use Prim.Native.Nat.{ℕ, _+_, _-_, _*_, _/_, _^_, _≤_, _<_}
+use mathlib.Core.Path.{_≡_, refl, sym}
+use mathlib.Core.Bool.{Bool, true, false, cond, not, _&&_}
+use mathlib.Core.List.{List, [], _∷_}
+use lib.ListN.{length}
 use lib.Seq.{getD-set-same}
-use lib.Dec.{eqb, ltb}
-use borrow.Author.Tests.{eqb-true, eqb-false, eq-eqb, ne-eqb}
+use lib.Dec.{eqb}
+use borrow.Author.Tests.{eqb-true, ne-eqb}
 use native.Mathlib.Omega.{arith}
 use native.Mathlib.Nat.{mod-lt}
+use Rattle.trm_laws.proofs.Tests.{bool-clash, clash}
 use Rattle.trm_word.specs.Fields.{operation, destination, bit}
 use Rattle.trm_reference.specs.Geometry.{Geometry}
-use Rattle.trm_reference.specs.Visible.{Visible, registerIndex, register, withRegister, nextPc, wordAt}
+use Rattle.trm_reference.specs.Visible.{Visible, registerIndex, register, withRegister, wordAt}
 use Rattle.trm_reference.specs.Access.{isLoad, isStore, isAccess, isMemory, placeOfWord, deviceNumber, toDevice, stored, loaded, Answer}
 use Rattle.trm_reference.specs.Access.{silent, deviceAnswer, answerOf}
-use Rattle.trm_reference.specs.Execute.{execute, wroteTo}
+use Rattle.trm_reference.specs.Execute.{execute}
 use Rattle.trm_reference.specs.Interrupt.{stalled, interruptChosen}
-use Rattle.trm_reference.specs.Trace.{Pins, After, clocks, endOf, outsOf}
-use Rattle.trm_reference.specs.Reference.{Reference, charge, carryOut, spend, takeOff, referenceHeld, referenceInterrupt}
-use Rattle.trm_reference.specs.Reference.{referenceUnheld, referenceClock}
-use Rattle.trm_core.proofs.Laws.Cache.{bool-clash}
-use Rattle.trm_core.proofs.Laws.Deaf.{answer-done}
+use Rattle.trm_reference.specs.Trace.{Pins, After, clocks, outsOf}
+use Rattle.trm_reference.specs.Reference.{Reference, charge, carryOut, spend, takeOff, referenceHeld, referenceInterrupt, referenceUnheld}
+use Rattle.trm_reference.specs.Reference.{referenceClock}
+use Rattle.trm_core.proofs.Laws.Deaf.{load-only, answer-done}
 use Rattle.trm_agreement.specs.Devices.{finishes, accessesDevice, accessesOf, deviceAnswers}
-use Rattle.trm_agreement.specs.Claims.{Told, Moves, InOrder, DevicesHold, Still, acknowledged, Quiet}
+use Rattle.trm_agreement.specs.Claims.{Told, Moves, InOrder, DevicesHold, acknowledged, Quiet}
 
 -- the outcome of a clock, told by what it does: a finishing one answers a, any other is silent and still
 record Shows (q : Reference) (a : Answer) (end interrupt : Bool) (u : After Reference Answer) : Type 0 where
@@ -46,27 +45,35 @@ module _ (G : Geometry) (p : List ℕ) (q : Reference) (pins : Pins) where
   off-shows n = go (eqb n 1)
     where
       go : (t : Bool) → Shows q a t false (cond t (carryOut G w q (pins .input)) (spend G w q (n - 1)))
-      go true = record { ends = λ _. refl; else = λ z. bool-clash true refl z; visible = λ z _. bool-clash true refl z;
-        memory = λ z _. bool-clash true refl z }
-      go false = record { ends = λ z. bool-clash false z refl; else = λ _. refl; visible = λ _ _. refl; memory = λ _ _. refl }
+      go true = record {
+        ends = λ _. refl;
+        else = λ z. bool-clash true refl z;
+        visible = λ z _. bool-clash true refl z;
+        memory = λ z _. bool-clash true refl z;
+      }
+      go false = record { ends = λ z. clash z; else = λ _. refl; visible = λ _ _. refl; memory = λ _ _. refl }
 
   clock-shows : Shows q a (finishes G p q pins) (acknowledged q pins) (referenceClock G p q pins)
   unfolding referenceClock referenceUnheld referenceHeld referenceInterrupt finishes w
   clock-shows = go (stalled (pins .line)) (eqb (q .left) 0) (eqb (interruptChosen (q .visible .status) (pins .line)) 0)
     where
       go : (s z c : Bool) → Shows q a (not s && cond z (c && eqb (charge G w q) 1) (eqb (q .left) 1)) (not s && z && not c)
-        (cond s (referenceHeld q) (cond z (cond c (takeOff G w q (charge G w q) (pins .input))
+          (cond s (referenceHeld q) (cond z (cond c (takeOff G w q (charge G w q) (pins .input))
           (referenceInterrupt (interruptChosen (q .visible .status) (pins .line)) q)) (takeOff G w q (q .left) (pins .input))))
-      go true z c = record { ends = λ e. bool-clash false e refl; else = λ _. refl; visible = λ _ _. refl; memory = λ _ _. refl }
+      go true z c = record { ends = λ e. clash e; else = λ _. refl; visible = λ _ _. refl; memory = λ _ _. refl }
       go false true true = off-shows (charge G w q)
-      go false true false = record { ends = λ e. bool-clash false e refl; else = λ _. refl; visible = λ _ e. bool-clash true refl e;
-        memory = λ _ e. bool-clash true refl e }
+      go false true false = record {
+        ends = λ e. clash e;
+        else = λ _. refl;
+        visible = λ _ e. bool-clash true refl e;
+        memory = λ _ e. bool-clash true refl e;
+      }
       go false false c = off-shows (q .left)
 
   finishes-done : (t : Bool) → finishes G p q pins ≡ t → referenceClock G p q pins .out .done ≡ cond t 1 0
   unfolding a
   finishes-done true e = rw (clock-shows .ends e)
-    (answer-done (wordAt p (q .visible .pc)) (q .visible) (length (q .memory)) (pins .input))
+      (answer-done (wordAt p (q .visible .pc)) (q .visible) (length (q .memory)) (pins .input))
   finishes-done false e = rw (clock-shows .else e)
 
   -- a word was carried out iff the clock finishes one
@@ -86,22 +93,24 @@ module _ (G : Geometry) (p : List ℕ) (q : Reference) (pins : Pins) where
 
 told-each : (G : Geometry) (p : List ℕ) (q : Reference) (pins : Pins) → Told G p q pins
 unfolding a
-told-each G p q pins = record { done = λ d. clock-shows G p q pins .ends (is-finish G p q pins d);
-    quiet = λ d. clock-shows G p q pins .else (no-finish G p q pins d) }
+told-each G p q pins = record {
+  done = λ d. clock-shows G p q pins .ends (is-finish G p q pins d);
+  quiet = λ d. clock-shows G p q pins .else (no-finish G p q pins d);
+}
 
 pub quiet-clocks : Quiet
-quiet-clocks G p q pins d n = record { visible = clock-shows G p q pins .visible (no-finish G p q pins d) n;
-    memory = clock-shows G p q pins .memory (no-finish G p q pins d) n }
+quiet-clocks G p q pins d n = record {
+  visible = clock-shows G p q pins .visible (no-finish G p q pins d) n;
+  memory = clock-shows G p q pins .memory (no-finish G p q pins d) n;
+}
 
 -- the byte of an access is not zero
 byte-shows : (w : ℕ) (v : Visible) (n i : ℕ) → eqb (answerOf w v n i .byte) 0 ≡ not (toDevice w v n)
 unfolding answerOf deviceAnswer
 byte-shows w v n i = go (toDevice w v n) (isStore w)
   where
-    d : ℕ
-    d = deviceNumber (placeOfWord w v n)
     go : (t u : Bool) → eqb ((cond t (cond u (record { byte = deviceNumber (placeOfWord w v n) * 4 + 2; word = stored w v; done = 1 })
-      (record { byte = deviceNumber (placeOfWord w v n) * 4 + 1; word = i; done = 1 })) (silent 1)) .byte) 0 ≡ not t
+        (record { byte = deviceNumber (placeOfWord w v n) * 4 + 1; word = i; done = 1 })) (silent 1)) .byte) 0 ≡ not t
     go true true = ne-eqb (deviceNumber (placeOfWord w v n) * 4 + 2) 0 (omega arith)
     go true false = ne-eqb (deviceNumber (placeOfWord w v n) * 4 + 1) 0 (omega arith)
     go false u = refl
@@ -113,21 +122,28 @@ in-order G p q (i ∷ is) = go (finishes G p q i) refl (in-order G p (referenceC
   where
     rest : List Answer
     rest = outsOf (clocks (referenceClock G p) (referenceClock G p q i .state) is)
+
     ans : Answer
     ans = answerOf (wordAt p (q .visible .pc)) (q .visible) (length (q .memory)) (i .input)
+
     go : (t : Bool) → finishes G p q i ≡ t → deviceAnswers rest ≡ accessesOf G p (referenceClock G p q i .state) is
-      → cond (eqb (referenceClock G p q i .out .byte) 0) (deviceAnswers rest) (referenceClock G p q i .out ∷ deviceAnswers rest)
+        → cond (eqb (referenceClock G p q i .out .byte) 0) (deviceAnswers rest) (referenceClock G p q i .out ∷ deviceAnswers rest)
         ≡ cond (finishes G p q i && accessesDevice G p q) (ans ∷ accessesOf G p (referenceClock G p q i .state) is)
-            (accessesOf G p (referenceClock G p q i .state) is)
-    go true e ih = rw (clock-shows G p q i .ends e, e, ih, byte-shows (wordAt p (q .visible .pc)) (q .visible) (length (q .memory))
-        (i .input))
-        (pick (toDevice (wordAt p (q .visible .pc)) (q .visible) (length (q .memory))))
+        (accessesOf G p (referenceClock G p q i .state) is)
+    go true e ih = rw (
+      clock-shows G p q i .ends e,
+      e,
+      ih,
+      byte-shows (wordAt p (q .visible .pc)) (q .visible) (length (q .memory))
+          (i .input),
+    )
+        (choose (toDevice (wordAt p (q .visible .pc)) (q .visible) (length (q .memory))))
       where
-        pick : (t : Bool) → cond (not t) (accessesOf G p (referenceClock G p q i .state) is)
+        choose : (t : Bool) → cond (not t) (accessesOf G p (referenceClock G p q i .state) is)
             (ans ∷ accessesOf G p (referenceClock G p q i .state) is)
-          ≡ cond t (ans ∷ accessesOf G p (referenceClock G p q i .state) is) (accessesOf G p (referenceClock G p q i .state) is)
-        pick true = refl
-        pick false = refl
+            ≡ cond t (ans ∷ accessesOf G p (referenceClock G p q i .state) is) (accessesOf G p (referenceClock G p q i .state) is)
+        choose true = refl
+        choose false = refl
     go false e ih = rw (clock-shows G p q i .else e, e) ih
 
 -- R.d gets what LD loads
@@ -142,20 +158,19 @@ load-arrives w v x e h = rw (eqb-true (operation w) 12 e) (getD-set-same (v .reg
 device-moves : (w : ℕ) (v : Visible) (n i x : ℕ) → Moves w v n i x
 unfolding answerOf deviceAnswer loaded stored
 device-moves w v n i x = record {
-    read = λ d l. rw (d, not-store l);
-    arrives = λ d l h. rw (not-memory d) (load-arrives w v i l h);
-    write = λ d s. rw (d, s);
-    none = λ d. rw d }
+  read = λ d l. rw (d, load-only w l);
+  arrives = λ d l h. rw (not-memory d) (load-arrives w v i l h);
+  write = λ d s. rw (d, s);
+  none = λ d. rw d;
+}
   where
-    not-store : isLoad w ≡ true → isStore w ≡ false
-    not-store l = unfold isLoad isStore in ne-eqb (operation w) 13 (let z = eqb-true (operation w) 12 l in omega arith)
     not-memory : toDevice w v n ≡ true → isMemory (placeOfWord w v n) ≡ false
     not-memory = unfold toDevice in go (isAccess w) (isMemory (placeOfWord w v n))
       where
         go : (s t : Bool) → s && not t ≡ true → t ≡ false
         go true true z = sym z
         go true false z = refl
-        go false t z = bool-clash false z refl
+        go false t z = clash z
 
 pub devices-hold : DevicesHold
 devices-hold = record { told = told-each; moves = device-moves; ordered = in-order }

@@ -1,18 +1,17 @@
 -- What the history says of each line, as one line of the cache says it.
 -- Idea: a line holds block b iff its last access was in b, and is dirty iff `lastDirty`; one law says what an access adds.
 -- Assumes nothing.
-use Prim.Native.Nat.{ℕ, zero, suc, _+_, _<_}
-use mathlib.Core.Path.{_≡_, refl, sym, ap, ap₂, _∙_}
+use Prim.Native.Nat.{ℕ, _<_}
+use mathlib.Core.Path.{_≡_, refl, sym, ap, _∙_}
 use mathlib.Core.Logic.{_≢_}
-use mathlib.Core.Bool.{Bool, true, false, cond, not, _&&_, _||_}
+use mathlib.Core.Bool.{Bool, true, false, cond, _&&_, _||_}
 use mathlib.Core.List.{List, [], _∷_}
-use lib.ListN.{length, getD, set}
 use lib.Dec.{eqb}
-use borrow.Author.Tests.{eqb-true, eqb-false, eq-eqb, ne-eqb}
+use borrow.Author.Tests.{eqb-true, eq-eqb, ne-eqb}
 use Rattle.trm_reference.specs.Geometry.{Geometry, lineOf}
 use Rattle.trm_reference.specs.History.{Touch, Event, access, emptying, since, lastIn, storedSince, lastDirty, dirtyNow, dirtyLines}
 use Rattle.trm_core.specs.Cache.{Line, lineAt, holds, countDirty, Cache}
-use Rattle.trm_core.proofs.Laws.Cache.{bool-clash, holds-empty}
+use Rattle.trm_core.proofs.Laws.Cache.{holds-empty}
 use Rattle.trm_core.proofs.Laws.Dirty.{howMany-ext}
 
 -- the line holds what its accesses say

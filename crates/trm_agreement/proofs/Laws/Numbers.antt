@@ -9,38 +9,39 @@ use mathlib.Core.List.{List, [], _∷_, _++_}
 use lib.ListN.{length}
 use lib.Dec.{eqb, ltb}
 use native.Mathlib.Omega.{arith}
+use Rattle.trm_laws.proofs.Tests.{chosen}
 use Rattle.trm_reference.specs.Geometry.{Geometry}
 use Rattle.trm_reference.specs.Trace.{Pins, After, clocks, endOf}
 use Rattle.trm_reference.specs.Reference.{Reference, referenceClock, referenceReset}
 use Rattle.trm_core.specs.Refusals.{programOk, countRow, clockRows, linesRefused, runRows}
-use Rattle.trm_agreement.specs.Log.{Engine, clocksOf, codesOf, fedOf, stateOf}
+use Rattle.trm_agreement.specs.Log.{clocksOf, codesOf, fedOf, stateOf}
 use Rattle.trm_agreement.specs.Calls.{Call, clockCall, runCall, feed, answer, ownRows, referenceCode, referenceEngine}
 use Rattle.trm_agreement.specs.Claims.{All, NeverFive, CallsAreClocks}
 use Rattle.trm_agreement.proofs.Laws.Demand.{same-codes}
 
 -- the reference machine gives 0, 3, 6, 7 and 8 alone
-not-five-cond : (t : Bool) (a b : ℕ) → a ≢ 5 → b ≢ 5 → cond t a b ≢ 5
-not-five-cond true a b p q = p
-not-five-cond false a b p q = q
+abbrev NotFive : ℕ → Type 0
+NotFive n = n ≢ 5
 
 count-row : (k n : ℕ) → countRow k n ≢ 5
 unfolding countRow
-count-row k n = not-five-cond (ltb 4294967295 (k + n)) 8 0 (λ z. absurd (omega arith)) (λ z. absurd (omega arith))
+count-row k n = chosen NotFive (ltb 4294967295 (k + n)) (λ z. absurd (omega arith)) (λ z. absurd (omega arith))
 
 own-rows : (G : Geometry) (p : List ℕ) (k : ℕ) (c : Call) → ownRows G p k c ≢ 5
 unfolding ownRows clockRows runRows
-own-rows G p k (clockCall line input) = not-five-cond (ltb 7 line) 6 (countRow k 1) (λ z. absurd (omega arith)) (count-row k 1)
-own-rows G p k (runCall lines inputs bytes words) = not-five-cond (linesRefused lines inputs) 6 _ (λ z. absurd (omega arith))
-    (not-five-cond (not (eqb (length bytes) (length lines)) || not (eqb (length words) (length lines))) 7 (countRow k (length lines))
-      (λ z. absurd (omega arith)) (count-row k (length lines)))
+own-rows G p k (clockCall line input) = chosen NotFive (ltb 7 line) (λ z. absurd (omega arith)) (count-row k 1)
+own-rows G p k (runCall lines inputs bytes words) = chosen NotFive (linesRefused lines inputs) (λ z. absurd (omega arith))
+    (chosen NotFive (not (eqb (length bytes) (length lines)) || not (eqb (length words) (length lines)))
+    (λ z. absurd (omega arith)) (count-row k (length lines)))
 
 codes-not-five : (G : Geometry) (p : List ℕ) (q : Reference) (cs : List Call)
     → All (λ code. code ≢ 5) (codesOf feed answer (referenceEngine G p) q cs)
 unfolding codesOf All referenceEngine referenceCode
 codes-not-five G p q [] = tt
-codes-not-five G p q (c ∷ cs) =
-    (not-five-cond (not (programOk p)) 3 (ownRows G p (q .clocks) c) (λ z. absurd (omega arith)) (own-rows G p (q .clocks) c),
-      codes-not-five G p (endOf q (clocksOf feed answer (referenceEngine G p) q c)) cs)
+codes-not-five G p q (c ∷ cs) = (
+  chosen NotFive (not (programOk p)) (λ z. absurd (omega arith)) (own-rows G p (q .clocks) c),
+  codes-not-five G p (endOf q (clocksOf feed answer (referenceEngine G p) q c)) cs,
+)
 
 pub never-five : NeverFive
 never-five G p s cs e r = rw (same-codes G p s cs e r) (codes-not-five G p (referenceReset s) cs)
@@ -62,8 +63,10 @@ calls-are-clocks G p q (c ∷ cs) =
   where
     after : Bool → Reference
     after t = endOf q (cond t (clocks (referenceClock G p) q (feed c)) [])
+
     rest : List Pins
     rest = fedOf feed answer (referenceEngine G p) (after (eqb (referenceCode G p q c) 0)) cs
+
     here : (t : Bool) → endOf q (clocks (referenceClock G p) q (cond t (feed c) [])) ≡ after t
     here true = refl
     here false = refl

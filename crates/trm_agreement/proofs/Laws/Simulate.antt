@@ -1,7 +1,7 @@
 -- Two machines in step give one log: the induction over a list of calls, once for any two machines.
 -- Idea: a relation that every clock keeps, that what is seen and the numbers of the calls agree under; R n has room for n clocks more,
 -- and a call that is not turned down has room for its own. Assumes nothing.
-use Prim.Native.Nat.{ℕ, zero, suc, _+_}
+use Prim.Native.Nat.{ℕ, suc}
 use mathlib.Core.Path.{_≡_, refl, ap, ap₂}
 use mathlib.Core.Bool.{Bool, true, false, cond}
 use mathlib.Core.List.{List, [], _∷_, _++_}
@@ -9,7 +9,7 @@ use lib.ListN.{length}
 use lib.Dec.{eqb}
 use borrow.Author.Tests.{eqb-true}
 use Rattle.trm_reference.specs.Trace.{After, clocks, endOf, outsOf}
-use Rattle.trm_agreement.specs.Log.{Engine, Entry, started, clocked, ended, clocksOf, entries, calls, logOf, codesOf}
+use Rattle.trm_agreement.specs.Log.{Engine, started, clocksOf, entries, calls, logOf, codesOf}
 
 -- two clocks that agree
 pub record Together {S S′ O : Type 0} (R : S → S′ → Type 0) (t : After S O) (u : After S′ O) : Type 0 where
@@ -22,7 +22,6 @@ module _ {S S′ I O W C A : Type 0} (feed : C → List I) (answer : ℕ → C �
     (seen : (n : ℕ) (x : S) (y : S′) → R n x y → E .seen x ≡ E′ .seen y)
     (code : (x : S) (y : S′) (c : C) → R 0 x y → E .code x c ≡ E′ .code y c)
     (room : (x : S) (y : S′) (c : C) → R 0 x y → E′ .code y c ≡ 0 → R (length (feed c)) x y) where
-
   -- two lists of clocks that agree
   record Alike (x : S) (y : S′) (ts : List (After S O)) (us : List (After S′ O)) : Type 0 where
     state : R 0 (endOf x ts) (endOf y us)
@@ -34,24 +33,26 @@ module _ {S S′ I O W C A : Type 0} (feed : C → List I) (answer : ℕ → C �
   none x y r = record { state = r; log = refl; outs = refl }
 
   more : (n : ℕ) (x : S) (y : S′) (t : After S O) (u : After S′ O) (ts : List (After S O)) (us : List (After S′ O)) → Together (R n) t u
-    → Alike (t .state) (u .state) ts us → Alike x y (t ∷ ts) (u ∷ us)
+      → Alike (t .state) (u .state) ts us → Alike x y (t ∷ ts) (u ∷ us)
   unfolding endOf outsOf entries
-  more n x y t u ts us g a = record { state = a .state;
+  more n x y t u ts us g a = record {
+    state = a .state;
     log = ap₂ _∷_ (rw (seen n (t .state) (u .state) (g .state), g .out)) (a .log);
-    outs = ap₂ _∷_ (g .out) (a .outs) }
+    outs = ap₂ _∷_ (g .out) (a .outs);
+  }
 
   clocks-alike : (x : S) (y : S′) (is : List I) → R (length is) x y → Alike x y (clocks (E .step) x is) (clocks (E′ .step) y is)
   unfolding clocks
   clocks-alike x y [] r = none x y r
   clocks-alike x y (i ∷ is) r = more (length is) x y _ _ _ _ (step (length is) x y i r)
-    (clocks-alike (E .step x i .state) (E′ .step y i .state) is (step (length is) x y i r .state))
+      (clocks-alike (E .step x i .state) (E′ .step y i .state) is (step (length is) x y i r .state))
 
   call-alike : (x : S) (y : S′) (c : C) → R 0 x y → Alike x y (clocksOf feed answer E x c) (clocksOf feed answer E′ y c)
   unfolding clocksOf
   call-alike x y c r = rw (code x y c r) (go (eqb (E′ .code y c) 0) refl)
     where
       go : (b : Bool) → eqb (E′ .code y c) 0 ≡ b
-        → Alike x y (cond b (clocks (E .step) x (feed c)) []) (cond b (clocks (E′ .step) y (feed c)) [])
+          → Alike x y (cond b (clocks (E .step) x (feed c)) []) (cond b (clocks (E′ .step) y (feed c)) [])
       go true e = clocks-alike x y (feed c) (room x y c r (eqb-true (E′ .code y c) 0 e))
       go false e = none x y r
 
@@ -59,7 +60,7 @@ module _ {S S′ I O W C A : Type 0} (feed : C → List I) (answer : ℕ → C �
   unfolding calls
   calls-alike x y [] r = refl
   calls-alike x y (c ∷ cs) r = ap₂ _++_ (call-alike x y c r .log)
-    (ap₂ _∷_ (rw (code x y c r, call-alike x y c r .outs))
+      (ap₂ _∷_ (rw (code x y c r, call-alike x y c r .outs))
       (calls-alike (endOf x (clocksOf feed answer E x c)) (endOf y (clocksOf feed answer E′ y c)) cs (call-alike x y c r .state)))
 
   pub log-alike : (x : S) (y : S′) (cs : List C) → R 0 x y → logOf feed answer E x cs ≡ logOf feed answer E′ y cs
@@ -70,4 +71,4 @@ module _ {S S′ I O W C A : Type 0} (feed : C → List I) (answer : ℕ → C �
   unfolding codesOf
   codes-alike x y [] r = refl
   codes-alike x y (c ∷ cs) r = ap₂ _∷_ (code x y c r)
-    (codes-alike (endOf x (clocksOf feed answer E x c)) (endOf y (clocksOf feed answer E′ y c)) cs (call-alike x y c r .state))
+      (codes-alike (endOf x (clocksOf feed answer E x c)) (endOf y (clocksOf feed answer E′ y c)) cs (call-alike x y c r .state))

@@ -1,35 +1,32 @@
 -- A clock that reads no device does not hear the input word; one that carries nothing out changes nothing that is seen.
 -- Idea: the input word enters a clock only where an LD from a device is carried out.
 -- Assumes nothing.
-use Prim.Native.Nat.{ℕ, _+_, _*_, _/_, _%_, _^_}
-use mathlib.Core.Path.{_≡_, refl, sym, ap, _∙_}
+use Prim.Native.Nat.{ℕ, _+_, _*_}
+use mathlib.Core.Path.{_≡_, refl, ap}
 use mathlib.Core.Bool.{Bool, true, false, cond, not, _&&_, _||_}
 use mathlib.Core.List.{List}
 use lib.ListN.{length}
 use lib.Dec.{eqb}
-use borrow.Author.Tests.{eqb-true}
+use borrow.Author.Tests.{eqb-true, ne-eqb}
 use native.Mathlib.Omega.{arith}
+use Rattle.trm_laws.proofs.Tests.{bool-clash, chosen}
 use Rattle.trm_word.specs.Fields.{operation, bit}
 use Rattle.trm_reference.specs.Geometry.{Geometry, burst}
 use Rattle.trm_reference.specs.Charge.{isStepped, throughCache, pastCache, turnsCacheOff}
 use Rattle.trm_reference.specs.Visible.{Visible, wordAt}
-use Rattle.trm_reference.specs.Access.{isLoad, isStore, isAccess, isMemory, placeOfWord, deviceNumber, toDevice, target, stored, loaded,
-    Answer}
-use Rattle.trm_reference.specs.Access.{targetBlock, targetLine}
-use Rattle.trm_reference.specs.Access.{silent, deviceAnswer, answerOf}
+use Rattle.trm_reference.specs.Access.{isLoad, isStore, isAccess, isMemory, placeOfWord, deviceNumber, toDevice, target, stored, loaded}
+use Rattle.trm_reference.specs.Access.{Answer, targetBlock, targetLine, silent, deviceAnswer, answerOf}
 use Rattle.trm_reference.specs.Execute.{execute}
 use Rattle.trm_reference.specs.Interrupt.{stalled, interruptChosen, interrupted}
-use Rattle.trm_reference.specs.Trace.{Pins, After}
+use Rattle.trm_reference.specs.Trace.{After}
 use Rattle.trm_core.specs.declared.record.Machine.{Machine}
 use Rattle.trm_core.specs.declared.record.Running.{Running}
 use Rattle.trm_core.specs.declared.record.Scalars.{Scalars}
 use Rattle.trm_core.specs.Cache.{Cache, lineAt, view, firstDirty}
 use Rattle.trm_core.specs.Record.{Lent, gathered, visibleOf, cacheOf}
-use Rattle.trm_core.specs.Clock.{Moved, moved, hits, missing, firstClock, written, writing, filling, writeLine}
-use Rattle.trm_core.specs.Clock.{carried, isLast, finish, cacheAfter, storeAfter, advance, quiet, worked, unheld, heldClock,
-    clockOf}
-use Rattle.trm_core.specs.Claims.{acknowledges, Deaf, Clocked, ClocksAreThree, Unseen, SeenChangesLast}
-use Rattle.trm_core.proofs.Laws.Cache.{bool-clash}
+use Rattle.trm_core.specs.Clock.{Moved, moved, hits, missing, firstClock, written, writing, filling, writeLine, carried, isLast}
+use Rattle.trm_core.specs.Clock.{finish, cacheAfter, storeAfter, advance, quiet, worked, unheld, heldClock, clockOf}
+use Rattle.trm_core.specs.Claims.{acknowledges, Deaf, ClocksAreThree, SeenChangesLast}
 
 -- only LD asks what is loaded
 execute-blind : (w : ℕ) (v : Visible) (x y : ℕ) → isLoad w ≡ false → execute w v x ≡ execute w v y
@@ -37,9 +34,9 @@ unfolding execute isLoad
 execute-blind w v x y e = rw e
 
 -- LD is not ST
-not-both : {A : Type 0} (w : ℕ) → isLoad w ≡ true → isStore w ≡ true → A
+pub load-only : (w : ℕ) → isLoad w ≡ true → isStore w ≡ false
 unfolding isLoad isStore
-not-both w e f = absurd (let a = eqb-true (operation w) 12 e in let b = eqb-true (operation w) 13 f in omega arith)
+load-only w e = ne-eqb (operation w) 13 (let z = eqb-true (operation w) 12 e in omega arith)
 
 -- the word that is loaded and the answer, by the input word
 finish-deaf : (G : Geometry) (w n : ℕ) (m : Machine) (s : List ℕ) (i j : ℕ) → bit 0 (answerOf w (visibleOf m) n i .byte) ≡ 0
@@ -47,30 +44,29 @@ finish-deaf : (G : Geometry) (w n : ℕ) (m : Machine) (s : List ℕ) (i j : ℕ
 unfolding finish loaded answerOf deviceAnswer toDevice isAccess
 finish-deaf G w n m s i j = go (isMemory (placeOfWord w (visibleOf m) n)) (isLoad w) refl (isStore w) refl
   where
-    v : Visible
-    v = visibleOf m
     x : ℕ
     x = view G (cacheOf m) s (target w (visibleOf m) n)
-    d : ℕ
-    d = deviceNumber (placeOfWord w (visibleOf m) n)
+
     out : Bool → ℕ → Answer
     out st k = cond st (record { byte = deviceNumber (placeOfWord w (visibleOf m) n) * 4 + 2; word = stored w (visibleOf m); done = 1 })
-      (record { byte = deviceNumber (placeOfWord w (visibleOf m) n) * 4 + 1; word = k; done = 1 })
+        (record { byte = deviceNumber (placeOfWord w (visibleOf m) n) * 4 + 1; word = k; done = 1 })
+
     end : Bool → Bool → Bool → ℕ → After Lent Answer
     end me ld st k = carried (m .scalars) (execute w (visibleOf m) (cond me x k)) (cacheAfter G w n (visibleOf m) (cacheOf m))
-      (storeAfter G w n (visibleOf m) s) (cond ((ld || st) && not me) (out st k) (silent 1))
+        (storeAfter G w n (visibleOf m) s) (cond ((ld || st) && not me) (out st k) (silent 1))
+
     go : (me ld : Bool) → isLoad w ≡ ld → (st : Bool) → isStore w ≡ st
         → bit 0 ((cond ((ld || st) && not me) (out st i) (silent 1)) .byte) ≡ 0
-      → end me ld st i ≡ end me ld st j
+        → end me ld st i ≡ end me ld st j
     go true true e st f h = refl
     go true false e true f h = refl
     go true false e false f h = refl
-    go false true e true f h = not-both w e f
+    go false true e true f h = bool-clash (isStore w) f (load-only w e)
     go false true e false f h = absurd (omega arith)
     go false false e true f h = ap (λ y. carried (m .scalars) y (cacheAfter G w n (visibleOf m) (cacheOf m))
-      (storeAfter G w n (visibleOf m) s) (out true i)) (execute-blind w (visibleOf m) i j e)
+        (storeAfter G w n (visibleOf m) s) (out true i)) (execute-blind w (visibleOf m) i j e)
     go false false e false f h = ap (λ y. carried (m .scalars) y (cacheAfter G w n (visibleOf m) (cacheOf m))
-      (storeAfter G w n (visibleOf m) s) (silent 1)) (execute-blind w (visibleOf m) i j e)
+        (storeAfter G w n (visibleOf m) s) (silent 1)) (execute-blind w (visibleOf m) i j e)
 
 pub deaf : Deaf
 unfolding clockOf unheld worked heldClock
@@ -80,14 +76,17 @@ deaf G p x line i j = go (stalled line)
   where
     w : ℕ
     w = wordAt p (x .machine .scalars .pc)
+
     n : ℕ
     n = length (x .store)
+
     clock : Bool → Bool → Bool → ℕ → After Lent Answer
     clock st ack end k = cond st (heldClock G (x .machine) (x .store))
-      (cond ack (carried (x .machine .scalars) (interrupted (visibleOf (x .machine)) (interruptChosen (x .machine .scalars .status) line))
-          (cacheOf (x .machine)) (x .store) (silent 0))
+        (cond ack (carried (x .machine .scalars) (interrupted (visibleOf (x .machine)) (interruptChosen (x .machine .scalars .status) line))
+        (cacheOf (x .machine)) (x .store) (silent 0))
         (cond end (finish G w n (x .machine) (x .store) k)
-          (quiet (x .machine .regs) (advance G w n (x .machine .scalars) (visibleOf (x .machine)) (cacheOf (x .machine)) (x .store)))))
+        (quiet (x .machine .regs) (advance G w n (x .machine .scalars) (visibleOf (x .machine)) (cacheOf (x .machine)) (x .store)))))
+
     go : (st ack end : Bool) → bit 0 (clock st ack end i .out .byte) ≡ 0 → clock st ack end i ≡ clock st ack end j
     go true ack end h = refl
     go false true end h = refl
@@ -101,21 +100,14 @@ clocks-are-three G p x pins = record { held = λ s. rw s; takes = λ s t. rw (s,
 -- an answer is 1 where a word was carried out
 pub answer-done : (w : ℕ) (v : Visible) (n i : ℕ) → answerOf w v n i .done ≡ 1
 unfolding answerOf deviceAnswer
-answer-done w v n i = go (toDevice w v n) (isStore w)
+answer-done w v n i = chosen done (toDevice w v n) (chosen done (isStore w) refl refl) refl
   where
-    go : (a b : Bool) → (cond a (cond b (record { byte = deviceNumber (placeOfWord w v n) * 4 + 2; word = stored w v; done = 1 })
-      (record { byte = deviceNumber (placeOfWord w v n) * 4 + 1; word = i; done = 1 })) (silent 1)) .done ≡ 1
-    go true true = refl
-    go true false = refl
-    go false b = refl
+    done : Answer → Type 0
+    done a = a .done ≡ 1
 
 -- a clock that goes on leaves what is seen: through every test of its definition
 record Leaves (c : Scalars) (t : Moved) : Type 0 where
   leaves : (rs : List ℕ) → gathered (t .scalars) rs ≡ gathered c rs
-
-leaves-cond : (b : Bool) {c : Scalars} {t u : Moved} → Leaves c t → Leaves c u → Leaves c (cond b t u)
-leaves-cond true x y = x
-leaves-cond false x y = y
 
 module _ (G : Geometry) where
   leaves-moved : (c : Scalars) (r : Running) (ca : Cache) (s : List ℕ) (a b : ℕ) → Leaves c (moved c r ca s a b)
@@ -123,27 +115,27 @@ module _ (G : Geometry) where
 
   leaves-writing : (off : Bool) (l k : ℕ) (c : Scalars) (ca : Cache) (s : List ℕ) → Leaves c (writing G off l k c ca s)
   unfolding writing written
-  leaves-writing off l k c ca s = leaves-cond (eqb (k + 1) (burst G))
-    (leaves-cond off (leaves-moved c _ _ _ 0 1) (leaves-moved c _ _ _ 0 1)) (leaves-moved c _ _ _ 0 0)
+  leaves-writing off l k c ca s = chosen (Leaves c) (eqb (k + 1) (burst G))
+      (chosen (Leaves c) off (leaves-moved c _ _ _ 0 1) (leaves-moved c _ _ _ 0 1)) (leaves-moved c _ _ _ 0 0)
 
   leaves-filling : (b l k : ℕ) (c : Scalars) (ca : Cache) (s : List ℕ) → Leaves c (filling G b l k c ca s)
   unfolding filling
-  leaves-filling b l k c ca s = leaves-cond (eqb (k + 1) (burst G)) (leaves-moved c _ _ _ 1 0) (leaves-moved c _ _ _ 0 0)
+  leaves-filling b l k c ca s = chosen (Leaves c) (eqb (k + 1) (burst G)) (leaves-moved c _ _ _ 1 0) (leaves-moved c _ _ _ 0 0)
 
   advance-leaves : (w n : ℕ) (c : Scalars) (v : Visible) (ca : Cache) (s : List ℕ) → Leaves c (advance G w n c v ca s)
   unfolding advance firstClock missing
   advance-leaves w n c v ca s =
-    leaves-cond (eqb (c .running .phase) 0)
-      (leaves-cond (isStepped w) (leaves-moved c _ _ _ 0 0) (leaves-cond (pastCache w v n) (leaves-moved c _ _ _ 0 0)
-        (leaves-cond (turnsCacheOff w v) (leaves-writing true (firstDirty G ca) 0 c ca s)
-          (leaves-cond (throughCache w v n && not (hits G w n v ca))
-            (leaves-cond (lineAt G ca (targetLine G w v n) .dirty) (leaves-moved c _ _ _ 0 0) (leaves-moved c _ _ _ 0 0))
-            (leaves-moved c _ _ _ 0 0)))))
-      (leaves-cond (eqb (c .running .phase) 1) (leaves-moved c _ _ _ 0 0)
-        (leaves-cond (eqb (c .running .phase) 2)
-          (leaves-writing (turnsCacheOff w v) (writeLine G w n v ca) (c .running .count) c ca s)
-          (leaves-cond (eqb (c .running .phase) 3)
-            (leaves-filling (targetBlock G w v n) (targetLine G w v n) (c .running .count) c ca s) (leaves-moved c _ _ _ 0 0))))
+      chosen (Leaves c) (eqb (c .running .phase) 0)
+      (chosen (Leaves c) (isStepped w) (leaves-moved c _ _ _ 0 0) (chosen (Leaves c) (pastCache w v n) (leaves-moved c _ _ _ 0 0)
+      (chosen (Leaves c) (turnsCacheOff w v) (leaves-writing true (firstDirty G ca) 0 c ca s)
+      (chosen (Leaves c) (throughCache w v n && not (hits G w n v ca))
+      (chosen (Leaves c) (lineAt G ca (targetLine G w v n) .dirty) (leaves-moved c _ _ _ 0 0) (leaves-moved c _ _ _ 0 0))
+      (leaves-moved c _ _ _ 0 0)))))
+      (chosen (Leaves c) (eqb (c .running .phase) 1) (leaves-moved c _ _ _ 0 0)
+      (chosen (Leaves c) (eqb (c .running .phase) 2)
+      (leaves-writing (turnsCacheOff w v) (writeLine G w n v ca) (c .running .count) c ca s)
+      (chosen (Leaves c) (eqb (c .running .phase) 3)
+      (leaves-filling (targetBlock G w v n) (targetLine G w v n) (c .running .count) c ca s) (leaves-moved c _ _ _ 0 0))))
 
 -- an outcome that shows nothing
 record Nothing (x : Lent) (t : After Lent Answer) : Type 0 where
@@ -156,27 +148,34 @@ seen-changes-last G p x pins d n = record { visible = u .visible; answer = u .an
   where
     w : ℕ
     w = wordAt p (x .machine .scalars .pc)
+
     k : ℕ
     k = length (x .store)
+
     clock : Bool → Bool → Bool → After Lent Answer
     clock st ack end = cond st (heldClock G (x .machine) (x .store))
-      (cond ack (carried (x .machine .scalars)
-          (interrupted (visibleOf (x .machine)) (interruptChosen (x .machine .scalars .status) (pins .line)))
-          (cacheOf (x .machine)) (x .store) (silent 0))
+        (cond ack (carried (x .machine .scalars)
+        (interrupted (visibleOf (x .machine)) (interruptChosen (x .machine .scalars .status) (pins .line)))
+        (cacheOf (x .machine)) (x .store) (silent 0))
         (cond end (finish G w k (x .machine) (x .store) (pins .input))
-          (quiet (x .machine .regs) (advance G w k (x .machine .scalars) (visibleOf (x .machine)) (cacheOf (x .machine)) (x .store)))))
+        (quiet (x .machine .regs) (advance G w k (x .machine .scalars) (visibleOf (x .machine)) (cacheOf (x .machine)) (x .store)))))
+
     ended : finish G w k (x .machine) (x .store) (pins .input) .out .done ≡ 1
     ended = unfold finish in answer-done w (visibleOf (x .machine)) k (pins .input)
+
     go : (st ack end : Bool) → clock st ack end .out .done ≡ 0 → not st && ack ≡ false → Nothing x (clock st ack end)
     go true ack end e h = record { visible = refl; answer = refl }
     go false true end e h = bool-clash true refl h
     go false false true e h = absurd (omega (arith, ended))
-    go false false false e h = record { answer = refl;
+    go false false false e h = record {
+      answer = refl;
       visible = advance-leaves G w k (x .machine .scalars) (visibleOf (x .machine)) (cacheOf (x .machine)) (x .store) .leaves
-          (x .machine .regs) }
+          (x .machine .regs);
+    }
+
     u : Nothing x (clock (stalled (pins .line))
-      (eqb (x .machine .scalars .running .phase) 0 && not (eqb (interruptChosen (x .machine .scalars .status) (pins .line)) 0))
-      (isLast G w k (x .machine .scalars .running) (visibleOf (x .machine)) (cacheOf (x .machine))))
+        (eqb (x .machine .scalars .running .phase) 0 && not (eqb (interruptChosen (x .machine .scalars .status) (pins .line)) 0))
+        (isLast G w k (x .machine .scalars .running) (visibleOf (x .machine)) (cacheOf (x .machine))))
     u = go (stalled (pins .line))
-      (eqb (x .machine .scalars .running .phase) 0 && not (eqb (interruptChosen (x .machine .scalars .status) (pins .line)) 0))
-      (isLast G w k (x .machine .scalars .running) (visibleOf (x .machine)) (cacheOf (x .machine))) d n
+        (eqb (x .machine .scalars .running .phase) 0 && not (eqb (interruptChosen (x .machine .scalars .status) (pins .line)) 0))
+        (isLast G w k (x .machine .scalars .running) (visibleOf (x .machine)) (cacheOf (x .machine))) d n

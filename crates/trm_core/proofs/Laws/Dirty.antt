@@ -1,25 +1,24 @@
 -- Laws of the dirty lines, of emptying, and of a copy.
 -- Idea: `howMany` and `lowest` by induction on the bound; emptying line by line.
 -- Assumes nothing.
-use Prim.Native.Nat.{ℕ, zero, suc, _+_, _-_, _*_, _/_, _%_, _≤_, _<_, zero-le, suc-le-suc}
-use mathlib.Core.Path.{_≡_, refl, sym, ap, ap₂, _∙_, subst}
+use Prim.Native.Nat.{ℕ, zero, suc, _+_, _≤_, _<_}
+use mathlib.Core.Path.{_≡_, refl, sym, ap, ap₂, _∙_}
 use mathlib.Core.Logic.{_≢_}
-use mathlib.Core.Bool.{Bool, true, false, cond, not, _&&_, _||_}
-use mathlib.Core.List.{List, [], _∷_, map}
-use lib.ListN.{length, getD, set, length-set}
-use lib.Seq.{getD-set-same, getD-set-other, ext-getD}
-use lib.Dec.{ltb, leb, eqb}
+use mathlib.Core.Bool.{Bool, true, false, cond}
+use mathlib.Core.List.{List}
+use lib.ListN.{length, getD}
+use lib.Seq.{ext-getD}
+use lib.Dec.{eqb}
 use native.Mathlib.Omega.{arith}
 use native.Mathlib.Nat.{le-of-suc-le-suc}
 use native.Mathlib.Decide.{ℕ-discrete}
 use borrow.Author.Tests.{eqb-true, eqb-false}
 use Rattle.trm_reference.specs.Geometry.{Geometry, blockOf, lineOf}
 use Rattle.trm_reference.specs.History.{howMany}
-use Rattle.trm_core.specs.Cache.{Cache, Line, lineAt, holds, lineView, view, emptied, lowest, countDirty, firstDirty, emptyTo,
-    allEmptied}
+use Rattle.trm_core.specs.Cache.{Cache, Line, lineAt, view, emptied, lowest, countDirty, firstDirty, emptyTo, allEmptied}
 use Rattle.trm_core.specs.Observe.{below, copyOf}
 use Rattle.trm_core.proofs.Laws.Lines.{emptyLine, Wide, Becomes, becomes-empty}
-use Rattle.trm_core.proofs.Laws.Cache.{LineOk, Sane, bool-clash, clean-view, emptied-ok}
+use Rattle.trm_core.proofs.Laws.Cache.{Sane, clean-view, emptied-ok}
 
 pub howMany-ext : (n : ℕ) (f g : ℕ → Bool) → ((i : ℕ) → i < n → f i ≡ g i) → howMany n f ≡ howMany n g
 unfolding howMany
@@ -34,6 +33,7 @@ howMany-none (suc n) f e i h = go (ℕ-discrete i n) (λ hi. howMany-none n f (o
     last : (b : Bool) → howMany n f + cond b 1 0 ≡ 0 → b ≡ false
     last true q = absurd (omega arith)
     last false q = refl
+
     go : Dec (i ≡ n) → (i < n → f i ≡ false) → f i ≡ false
     go (yes q) ih = rw q (last (f n) e)
     go (no q) ih = ih (omega arith)
@@ -45,7 +45,7 @@ lowest-is (suc n) f q = go (f n) refl (eqb (howMany n f) 0) refl q (lowest-is n 
   where
     go : (b : Bool) → f n ≡ b → (t : Bool) → eqb (howMany n f) 0 ≡ t → howMany n f + cond b 1 0 ≢ 0
         → (howMany n f ≢ 0 → (lowest n f < n) × (f (lowest n f) ≡ true))
-      → (cond t (cond b n 0) (lowest n f) < suc n) × (f (cond t (cond b n 0) (lowest n f)) ≡ true)
+        → (cond t (cond b n 0) (lowest n f) < suc n) × (f (cond t (cond b n 0) (lowest n f)) ≡ true)
     go true e true z y ih = (omega arith, e)
     go false e true z y ih = absurd (y (let x = eqb-true (howMany n f) 0 z in omega arith))
     go b e false z y ih = let w = ih (eqb-false (howMany n f) 0 z) in (omega (arith, w .0), w .1)
@@ -59,9 +59,9 @@ howMany-less (suc n) f g j h a b same = go (ℕ-discrete j n) (λ hj. howMany-le
   where
     go : Dec (j ≡ n) → (j < n → howMany n f ≡ suc (howMany n g)) → howMany n f + cond (f n) 1 0 ≡ suc (howMany n g + cond (g n) 1 0)
     go (yes q) ih =
-      let fn : f n ≡ true = (rw q at a) in
-      let gn : g n ≡ false = (rw q at b) in
-      rw (fn, gn, howMany-ext n g f (λ i hi. same i (omega arith) (omega arith))) (omega arith)
+        let fn : f n ≡ true = (rw q at a) in
+        let gn : g n ≡ false = (rw q at b) in
+        rw (fn, gn, howMany-ext n g f (λ i hi. same i (omega arith) (omega arith))) (omega arith)
     go (no q) ih = rw (same n (omega arith) (λ z. q (sym z)), ih (omega arith)) (omega arith)
 
 pub howMany-le : (n : ℕ) (f : ℕ → Bool) → howMany n f ≤ n
@@ -86,7 +86,7 @@ pub clean-one : (G : Geometry) (ls : Cache) (l : ℕ) (ln : Line) (ls′ : Cache
     → lineAt G ls l .dirty ≡ true → ln .dirty ≡ false → countDirty G ls ≡ suc (countDirty G ls′)
 unfolding countDirty
 clean-one G ls l ln ls′ bc h d e = howMany-less (G .lines) (λ k. lineAt G ls k .dirty) (λ k. lineAt G ls′ k .dirty) l h d
-  (rw (bc .here) e) (λ k hk n. rw (bc .there k n))
+    (rw (bc .here) e) (λ k hk n. rw (bc .there k n))
 
 -- emptying line by line
 pub emptyTo-wide : (G : Geometry) (ls : Cache) (n : ℕ) → n ≤ G .lines → Wide G ls → Wide G (emptyTo n ls)
@@ -108,6 +108,7 @@ emptyTo-at G ls (suc n) l h wd g = go (ℕ-discrete l n) (λ hl. emptyTo-at G ls
   where
     bc : Becomes G (emptyTo n ls) n (emptyLine (lineAt G (emptyTo n ls) n)) (emptied (emptyTo n ls) n)
     bc = becomes-empty G (emptyTo n ls) n (emptyTo-wide G ls n (omega arith) wd) h
+
     go : Dec (l ≡ n) → (l < n → lineAt G (emptyTo n ls) l ≡ emptyLine (lineAt G ls l))
         → lineAt G (emptied (emptyTo n ls) n) l ≡ emptyLine (lineAt G ls l)
     go (yes q) ih = rw q (bc .here ∙ ap emptyLine (emptyTo-other G ls n n (omega arith) wd (omega arith)))
@@ -119,8 +120,10 @@ emptied-at G ls l wd h = emptyTo-at G ls (G .lines) l (omega arith) wd h
 
 module _ (G : Geometry) (wpos : 0 < G .words) where
   pub allEmptied-sane : (ls : Cache) (s : List ℕ) → Sane G ls s → Sane G (allEmptied G ls) s
-  allEmptied-sane ls s sn = record { wide = (unfold allEmptied in emptyTo-wide G ls (G .lines) (omega arith) (sn .wide));
-    each = λ l h. rw (emptied-at G ls l (sn .wide) h) (emptied-ok G wpos s l (lineAt G ls l) (sn .each l h .wide)) }
+  allEmptied-sane ls s sn = record {
+    wide = (unfold allEmptied in emptyTo-wide G ls (G .lines) (omega arith) (sn .wide));
+    each = λ l h. rw (emptied-at G ls l (sn .wide) h) (emptied-ok G wpos s l (lineAt G ls l) (sn .each l h .wide));
+  }
 
   pub allEmptied-view : (ls : Cache) (s : List ℕ) (a : ℕ) → lineOf G (blockOf G a) < G .lines → Sane G ls s → countDirty G ls ≡ 0
       → view G (allEmptied G ls) s a ≡ view G ls s a

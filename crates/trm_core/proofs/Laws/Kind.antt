@@ -2,14 +2,14 @@
 -- Idea: the operation is one of 8, 9, 11–15 or another, whose base charge is 1 (computed for all sixteen); then every test computes.
 -- Assumes nothing.
 --   kindOf w v n    the kind        kind-is   every test, and the charge, by the kind
-use Prim.Native.Nat.{ℕ, zero, suc, _+_, _*_, _/_, _^_, _<_, _≤_}
-use mathlib.Core.Path.{_≡_, refl, sym, ap, _∙_}
-use mathlib.Core.Bool.{Bool, true, false, cond, not, _&&_, _||_}
-use lib.Dec.{eqb, ltb}
-use borrow.Author.Tests.{eqb-true, eqb-false, ne-eqb}
+use Prim.Native.Nat.{ℕ, _+_, _*_, _/_, _^_, _<_}
+use mathlib.Core.Path.{_≡_, refl, _∙_, subst}
+use mathlib.Core.Bool.{Bool, true, false, cond, not, _||_}
+use lib.Dec.{eqb}
+use borrow.Author.Tests.{eqb-true}
 use native.Mathlib.Omega.{arith}
 use native.Mathlib.Nat.{mod-lt}
-use native.Mathlib.Decide.{ℕ-discrete}
+use Rattle.trm_laws.proofs.Tests.{clash}
 use Rattle.trm_word.specs.Fields.{operation, bit}
 use Rattle.trm_word.specs.Condition.{isSet}
 use Rattle.trm_word.specs.Charge.{chargeOf}
@@ -17,8 +17,10 @@ use Rattle.trm_reference.specs.Geometry.{Geometry, burst}
 use Rattle.trm_reference.specs.Visible.{Visible, cacheOn}
 use Rattle.trm_reference.specs.Access.{isLoad, isStore, isAccess, isMemory, placeOfWord, toMemory, toDevice}
 use Rattle.trm_reference.specs.Execute.{branchTaken}
-use Rattle.trm_reference.specs.Charge.{isStepped, isJump, takesBranch, throughCache, pastCache, turnsCacheOff, missCharge}
-use Rattle.trm_reference.specs.Charge.{uncachedCharge, chargeBy}
+use Rattle.trm_reference.specs.Charge.{isStepped, isJump, takesBranch, throughCache, pastCache, turnsCacheOff, missCharge, uncachedCharge}
+use Rattle.trm_reference.specs.Charge.{chargeBy}
+use Rattle.trm_core.specs.Rule.{allBelow}
+use Rattle.trm_core.proofs.Laws.Fit.{below-all}
 
 pub data Kind : Type 0 where
   quick : Kind
@@ -37,32 +39,32 @@ kindOf w v n =
     (cond (takesBranch w v || isJump w || eqb (operation w) 15) second quick)))
 
 abbrev pub isLonger : Kind → Bool
-isLonger k = elim k [ quick ↦ false | second ↦ false | longer ↦ true | device ↦ false | cached ↦ false | uncached ↦ false
-  | clearing ↦ false ]
+isLonger k =
+    elim k [ quick ↦ false | second ↦ false | longer ↦ true | device ↦ false | cached ↦ false | uncached ↦ false | clearing ↦ false ]
 
 abbrev pub isSecond : Kind → Bool
-isSecond k = elim k [ quick ↦ false | second ↦ true | longer ↦ false | device ↦ false | cached ↦ false | uncached ↦ false
-  | clearing ↦ false ]
+isSecond k =
+    elim k [ quick ↦ false | second ↦ true | longer ↦ false | device ↦ false | cached ↦ false | uncached ↦ false | clearing ↦ false ]
 
 abbrev pub isDevice : Kind → Bool
-isDevice k = elim k [ quick ↦ false | second ↦ false | longer ↦ false | device ↦ true | cached ↦ false | uncached ↦ false
-  | clearing ↦ false ]
+isDevice k =
+    elim k [ quick ↦ false | second ↦ false | longer ↦ false | device ↦ true | cached ↦ false | uncached ↦ false | clearing ↦ false ]
 
 abbrev pub isCached : Kind → Bool
-isCached k = elim k [ quick ↦ false | second ↦ false | longer ↦ false | device ↦ false | cached ↦ true | uncached ↦ false
-  | clearing ↦ false ]
+isCached k =
+    elim k [ quick ↦ false | second ↦ false | longer ↦ false | device ↦ false | cached ↦ true | uncached ↦ false | clearing ↦ false ]
 
 abbrev pub isUncached : Kind → Bool
-isUncached k = elim k [ quick ↦ false | second ↦ false | longer ↦ false | device ↦ false | cached ↦ false | uncached ↦ true
-  | clearing ↦ false ]
+isUncached k =
+    elim k [ quick ↦ false | second ↦ false | longer ↦ false | device ↦ false | cached ↦ false | uncached ↦ true | clearing ↦ false ]
 
 abbrev pub isClearing : Kind → Bool
-isClearing k = elim k [ quick ↦ false | second ↦ false | longer ↦ false | device ↦ false | cached ↦ false | uncached ↦ false
-  | clearing ↦ true ]
+isClearing k =
+    elim k [ quick ↦ false | second ↦ false | longer ↦ false | device ↦ false | cached ↦ false | uncached ↦ false | clearing ↦ true ]
 
 abbrev pub inMemory : Kind → Bool
-inMemory k = elim k [ quick ↦ false | second ↦ false | longer ↦ false | device ↦ false | cached ↦ true | uncached ↦ true
-  | clearing ↦ false ]
+inMemory k =
+    elim k [ quick ↦ false | second ↦ false | longer ↦ false | device ↦ false | cached ↦ true | uncached ↦ true | clearing ↦ false ]
 
 -- what a kind tells of the cache bit
 abbrev pub CacheBy : Kind → Bool → Type 0
@@ -84,14 +86,14 @@ chargeOfKind G cached store misses evicts dirty = cond misses (missCharge G evic
 chargeOfKind G uncached store misses evicts dirty = cond store 5 6
 chargeOfKind G clearing store misses evicts dirty = 1 + burst G * dirty
 
--- the base charge where the phase's end is told by it
+-- what a kind tells of the base charge, and of LD against ST
 abbrev pub CostBy : Kind → ℕ → Type 0
 CostBy quick w = Unit {0}
 CostBy second w = Unit {0}
 CostBy longer w = chargeOf (operation w) ≡ 33
 CostBy device w = isLoad w ≡ not (isStore w)
 CostBy cached w = isLoad w ≡ not (isStore w)
-CostBy uncached w = uncachedCharge w ≡ cond (isStore w) 5 6
+CostBy uncached w = (uncachedCharge w ≡ cond (isStore w) 5 6) × (isLoad w ≡ not (isStore w))
 CostBy clearing w = Unit {0}
 
 pub record Is (k : Kind) (w : ℕ) (v : Visible) (n : ℕ) : Type 0 where
@@ -105,7 +107,7 @@ pub record Is (k : Kind) (w : ℕ) (v : Visible) (n : ℕ) : Type 0 where
   pub on : CacheBy k (cacheOn v)
   pub cost : CostBy k w
   pub charge : (G : Geometry) (misses evicts : Bool) (dirty : ℕ)
-    → chargeBy G w v n misses evicts dirty ≡ chargeOfKind G k (isStore w) misses evicts dirty
+      → chargeBy G w v n misses evicts dirty ≡ chargeOfKind G k (isStore w) misses evicts dirty
 
 -- an operation, by the numbers that the tests name
 data Operation (o : ℕ) : Type 0 where
@@ -117,37 +119,20 @@ data Operation (o : ℕ) : Type 0 where
   is14 : o ≡ 14 → Operation o
   is15 : o ≡ 15 → Operation o
   other : eqb o 8 ≡ false → eqb o 9 ≡ false → eqb o 11 ≡ false → eqb o 12 ≡ false → eqb o 13 ≡ false → eqb o 14 ≡ false
-    → eqb o 15 ≡ false → chargeOf o ≡ 1 → Operation o
-
--- every number below k passes, so this one does
-allTrue : ℕ → (ℕ → Bool) → Bool
-allTrue zero f = true
-allTrue (suc k) f = allTrue k f && f k
-
-all-true : (k : ℕ) (f : ℕ → Bool) → allTrue k f ≡ true → (i : ℕ) → i < k → f i ≡ true
-unfolding allTrue
-all-true zero f t i h = absurd (omega arith)
-all-true (suc k) f t i h = go (ℕ-discrete i k) (allTrue k f) refl (f k) refl t (λ g. all-true k f g i)
-  where
-    go : Dec (i ≡ k) → (a : Bool) → allTrue k f ≡ a → (b : Bool) → f k ≡ b → a && b ≡ true
-      → (allTrue k f ≡ true → i < k → f i ≡ true) → f i ≡ true
-    go (yes e) true p b q r ih = rw e (q ∙ r)
-    go (yes e) false p b q r ih = absurd (let z : _≡_ {A = ℕ} 0 1 = cc in omega arith)
-    go (no n) true p b q r ih = ih p (omega arith)
-    go (no n) false p b q r ih = absurd (let z : _≡_ {A = ℕ} 0 1 = cc in omega arith)
+      → eqb o 15 ≡ false → chargeOf o ≡ 1 → Operation o
 
 -- any other operation is charged 1
 cheap : ℕ → Bool
 cheap o = eqb o 8 || eqb o 9 || eqb o 11 || eqb o 12 || eqb o 13 || eqb o 14 || eqb o 15 || eqb (chargeOf o) 1
 
 operation-is : (o : ℕ) → o < 16 → Operation o
-unfolding cheap allTrue
+unfolding cheap allBelow
 operation-is o h = go (eqb o 8) refl (eqb o 9) refl (eqb o 11) refl (eqb o 12) refl (eqb o 13) refl (eqb o 14) refl (eqb o 15) refl
-    (all-true 16 cheap refl o h)
+    (below-all 16 cheap refl o h)
   where
     go : (a : Bool) → eqb o 8 ≡ a → (b : Bool) → eqb o 9 ≡ b → (c : Bool) → eqb o 11 ≡ c → (d : Bool) → eqb o 12 ≡ d
-      → (e : Bool) → eqb o 13 ≡ e → (f : Bool) → eqb o 14 ≡ f → (g : Bool) → eqb o 15 ≡ g
-      → a || b || c || d || e || f || g || eqb (chargeOf o) 1 ≡ true → Operation o
+        → (e : Bool) → eqb o 13 ≡ e → (f : Bool) → eqb o 14 ≡ f → (g : Bool) → eqb o 15 ≡ g
+        → a || b || c || d || e || f || g || eqb (chargeOf o) 1 ≡ true → Operation o
     go true p b q c r d s e t f u g x y = is8 (eqb-true o 8 p)
     go false p true q c r d s e t f u g x y = is9 (eqb-true o 9 q)
     go false p false q true r d s e t f u g x y = is11 (eqb-true o 11 r)
@@ -157,63 +142,87 @@ operation-is o h = go (eqb o 8) refl (eqb o 9) refl (eqb o 11) refl (eqb o 12) r
     go false p false q false r false s false t false u true x y = is15 (eqb-true o 15 x)
     go false p false q false r false s false t false u false x y = other p q r s t u x (eqb-true (chargeOf o) 1 y)
 
+-- the facts in their order
+told : {k : Kind} {w : ℕ} {v : Visible} {n : ℕ} → isStepped w ≡ isLonger k → toMemory w v n ≡ inMemory k → toDevice w v n ≡ isDevice k
+    → throughCache w v n ≡ isCached k → pastCache w v n ≡ isUncached k → turnsCacheOff w v ≡ isClearing k
+    → takesBranch w v || isJump w || eqb (operation w) 15 ≡ isSecond k → CacheBy k (cacheOn v) → CostBy k w
+    → ((G : Geometry) (misses evicts : Bool) (dirty : ℕ)
+    → chargeBy G w v n misses evicts dirty ≡ chargeOfKind G k (isStore w) misses evicts dirty) → Is k w v n
+told a b c d e f g h i j =
+    record { stepped = a; memory = b; device = c; through = d; past = e; off = f; twice = g; on = h; cost = i; charge = j }
+
 pub kind-is : (w : ℕ) (v : Visible) (n : ℕ) → Is (kindOf w v n) w v n
 unfolding kindOf isStepped isLoad isStore isAccess toMemory toDevice throughCache pastCache turnsCacheOff takesBranch isJump
     chargeBy chargeOfKind uncachedCharge
 kind-is w v n = by (operation-is (operation w) (mod-lt (w / 2 ^ 14) {m = 2 ^ 4} (omega arith)))
   where
-    memory12 : operation w ≡ 12 → (me on : Bool) → isMemory (placeOfWord w v n) ≡ me → cacheOn v ≡ on → Is (kindOf w v n) w v n
-    memory12 o true true p q = rw (o, p, q) (record { stepped = rw o; memory = rw (o, p); device = rw (o, p); through = rw (o, p, q);
-      past = rw (o, p, q); off = rw o; twice = rw o; on = q; cost = rw o;
-      charge = λ G a b d. rw (o, p, q) })
-    memory12 o true false p q = rw (o, p, q) (record { stepped = rw o; memory = rw (o, p); device = rw (o, p); through = rw (o, p, q);
-      past = rw (o, p, q); off = rw o; twice = rw o; on = q; cost = rw o;
-      charge = λ G a b d. rw (o, p, q) })
-    memory12 o false on p q = rw (o, p) (record { stepped = rw o; memory = rw (o, p); device = rw (o, p); through = rw (o, p);
-      past = rw (o, p); off = rw o; twice = rw o; on = tt; cost = rw o;
-      charge = λ G a b d. rw (o, p) })
-    memory13 : operation w ≡ 13 → (me on : Bool) → isMemory (placeOfWord w v n) ≡ me → cacheOn v ≡ on → Is (kindOf w v n) w v n
-    memory13 o true true p q = rw (o, p, q) (record { stepped = rw o; memory = rw (o, p); device = rw (o, p); through = rw (o, p, q);
-      past = rw (o, p, q); off = rw o; twice = rw o; on = q; cost = rw o;
-      charge = λ G a b d. rw (o, p, q) })
-    memory13 o true false p q = rw (o, p, q) (record { stepped = rw o; memory = rw (o, p); device = rw (o, p); through = rw (o, p, q);
-      past = rw (o, p, q); off = rw o; twice = rw o; on = q; cost = rw o;
-      charge = λ G a b d. rw (o, p, q) })
-    memory13 o false on p q = rw (o, p) (record { stepped = rw o; memory = rw (o, p); device = rw (o, p); through = rw (o, p);
-      past = rw (o, p); off = rw o; twice = rw o; on = tt; cost = rw o;
-      charge = λ G a b d. rw (o, p) })
+    load : operation w ≡ 12 → (me on : Bool) → isMemory (placeOfWord w v n) ≡ me → cacheOn v ≡ on → Is (kindOf w v n) w v n
+    load o true true p q = rw (o, p, q) (told (rw o) (rw (o, p)) (rw (o, p)) (rw (o, p, q)) (rw (o, p, q)) (rw o) (rw o) q (rw o)
+        (λ G a b d. rw (o, p, q)))
+    load o true false p q = rw (o, p, q) (told (rw o) (rw (o, p)) (rw (o, p)) (rw (o, p, q)) (rw (o, p, q)) (rw o) (rw o) q (rw o, rw o)
+        (λ G a b d. rw (o, p, q)))
+    load o false on p q = rw (o, p) (told (rw o) (rw (o, p)) (rw (o, p)) (rw (o, p)) (rw (o, p)) (rw o) (rw o) tt (rw o)
+        (λ G a b d. rw (o, p)))
+
+    store : operation w ≡ 13 → (me on : Bool) → isMemory (placeOfWord w v n) ≡ me → cacheOn v ≡ on → Is (kindOf w v n) w v n
+    store o true true p q = rw (o, p, q) (told (rw o) (rw (o, p)) (rw (o, p)) (rw (o, p, q)) (rw (o, p, q)) (rw o) (rw o) q (rw o)
+        (λ G a b d. rw (o, p, q)))
+    store o true false p q = rw (o, p, q) (told (rw o) (rw (o, p)) (rw (o, p)) (rw (o, p, q)) (rw (o, p, q)) (rw o) (rw o) q (rw o, rw o)
+        (λ G a b d. rw (o, p, q)))
+    store o false on p q = rw (o, p) (told (rw o) (rw (o, p)) (rw (o, p)) (rw (o, p)) (rw (o, p)) (rw o) (rw o) tt (rw o)
+        (λ G a b d. rw (o, p)))
+
     control : operation w ≡ 11 → (ten : Bool) → isSet (bit 10 w) ≡ ten → (on : Bool) → cacheOn v ≡ on → (keeps : Bool)
-      → isSet (bit 3 w) ≡ keeps → Is (kindOf w v n) w v n
-    control o true p on q keeps r = rw (o, p)
-        (record { stepped = rw o; memory = rw o; device = rw o; through = rw o; past = rw o; off = rw (o, p); twice = rw (o, p);
-      on = tt; cost = tt; charge = λ G a b d. rw (o, p) })
-    control o false p false q keeps r = rw (o, p, q)
-        (record { stepped = rw o; memory = rw o; device = rw o; through = rw o; past = rw o; off = rw (o, p, q); twice = rw (o, p);
-      on = tt; cost = tt; charge = λ G a b d. rw (o, p, q) })
-    control o false p true q true r = rw (o, p, q, r)
-        (record { stepped = rw o; memory = rw o; device = rw o; through = rw o; past = rw o; off = rw (o, p, q, r); twice = rw (o, p);
-      on = tt; cost = tt; charge = λ G a b d. rw (o, p, q, r) })
-    control o false p true q false r = rw (o, p, q, r)
-        (record { stepped = rw o; memory = rw o; device = rw o; through = rw o; past = rw o; off = rw (o, p, q, r); twice = rw (o, p);
-      on = q; cost = tt; charge = λ G a b d. rw (o, p, q, r) })
+        → isSet (bit 3 w) ≡ keeps → Is (kindOf w v n) w v n
+    control o true p on q keeps r = rw (o, p) (told (rw o) (rw o) (rw o) (rw o) (rw o) (rw (o, p)) (rw (o, p)) tt tt
+        (λ G a b d. rw (o, p)))
+    control o false p false q keeps r = rw (o, p, q) (told (rw o) (rw o) (rw o) (rw o) (rw o) (rw (o, p, q)) (rw (o, p)) tt tt
+        (λ G a b d. rw (o, p, q)))
+    control o false p true q true r = rw (o, p, q, r) (told (rw o) (rw o) (rw o) (rw o) (rw o) (rw (o, p, q, r)) (rw (o, p)) tt tt
+        (λ G a b d. rw (o, p, q, r)))
+    control o false p true q false r = rw (o, p, q, r) (told (rw o) (rw o) (rw o) (rw o) (rw o) (rw (o, p, q, r)) (rw (o, p)) q tt
+        (λ G a b d. rw (o, p, q, r)))
+
     branch : operation w ≡ 14 → (taken : Bool) → branchTaken w v ≡ taken → Is (kindOf w v n) w v n
-    branch o true p = rw (o, p)
-        (record { stepped = rw o; memory = rw o; device = rw o; through = rw o; past = rw o; off = rw o; twice = rw (o, p);
-      on = tt; cost = tt; charge = λ G a b d. rw (o, p) })
-    branch o false p = rw (o, p)
-        (record { stepped = rw o; memory = rw o; device = rw o; through = rw o; past = rw o; off = rw o; twice = rw (o, p);
-      on = tt; cost = tt; charge = λ G a b d. rw (o, p) })
+    branch o true p = rw (o, p) (told (rw o) (rw o) (rw o) (rw o) (rw o) (rw o) (rw (o, p)) tt tt (λ G a b d. rw (o, p)))
+    branch o false p = rw (o, p) (told (rw o) (rw o) (rw o) (rw o) (rw o) (rw o) (rw (o, p)) tt tt (λ G a b d. rw (o, p)))
+
     by : Operation (operation w) → Is (kindOf w v n) w v n
-    by (is8 o) = rw o (record { stepped = rw o; memory = rw o; device = rw o; through = rw o; past = rw o; off = rw o; twice = rw o;
-      on = tt; cost = rw o; charge = λ G a b d. rw o })
-    by (is9 o) = rw o (record { stepped = rw o; memory = rw o; device = rw o; through = rw o; past = rw o; off = rw o; twice = rw o;
-      on = tt; cost = rw o; charge = λ G a b d. rw o })
+    by (is8 o) = rw o (told (rw o) (rw o) (rw o) (rw o) (rw o) (rw o) (rw o) tt (rw o) (λ G a b d. rw o))
+    by (is9 o) = rw o (told (rw o) (rw o) (rw o) (rw o) (rw o) (rw o) (rw o) tt (rw o) (λ G a b d. rw o))
     by (is11 o) = control o (isSet (bit 10 w)) refl (cacheOn v) refl (isSet (bit 3 w)) refl
-    by (is12 o) = memory12 o (isMemory (placeOfWord w v n)) (cacheOn v) refl refl
-    by (is13 o) = memory13 o (isMemory (placeOfWord w v n)) (cacheOn v) refl refl
+    by (is12 o) = load o (isMemory (placeOfWord w v n)) (cacheOn v) refl refl
+    by (is13 o) = store o (isMemory (placeOfWord w v n)) (cacheOn v) refl refl
     by (is14 o) = branch o (branchTaken w v) refl
-    by (is15 o) = rw o (record { stepped = rw o; memory = rw o; device = rw o; through = rw o; past = rw o; off = rw o; twice = rw o;
-      on = tt; cost = tt; charge = λ G a b d. rw o })
-    by (other a b c d e f g one) = rw (a, b, c, d, e, f, g) (record { stepped = rw (a, b); memory = rw (d, e); device = rw (d, e);
-      through = rw (d, e); past = rw (d, e); off = rw c; twice = rw (c, f, g); on = tt; cost = tt;
-      charge = λ G i j k. rw (c, d, e, f, one) })
+    by (is15 o) = rw o (told (rw o) (rw o) (rw o) (rw o) (rw o) (rw o) (rw o) tt tt (λ G a b d. rw o))
+    by (other a b c d e f g one) = rw (a, b, c, d, e, f, g) (told (rw (a, b)) (rw (d, e)) (rw (d, e)) (rw (d, e)) (rw (d, e)) (rw c)
+        (rw (c, f, g)) tt tt (λ G i j k. rw (c, d, e, f, one)))
+
+-- every test by a known kind
+pub is-of : (w : ℕ) (v : Visible) (n : ℕ) (k : Kind) → kindOf w v n ≡ k → Is k w v n
+is-of w v n k q = subst (λ j. Is j w v n) q (kind-is w v n)
+
+-- past the cache, in the paper's numbers: LD waits 5 clocks and ST 4, and each has one more
+pub waits-are : {w : ℕ} {v : Visible} {n : ℕ} → Is uncached w v n → uncachedCharge w ≡ cond (isLoad w) 5 4 + 1
+waits-are {w} is = is .cost .0 ∙ rw (is .cost .1) (go (isStore w))
+  where
+    go : (t : Bool) → _≡_ {A = ℕ} (cond t 5 6) (cond (not t) 5 4 + 1)
+    go true = refl
+    go false = refl
+
+-- the kind by one test
+pub longer-is : (k : Kind) → isLonger k ≡ true → k ≡ longer
+longer-is k = elim k as (λ j. isLonger j ≡ true → j ≡ longer)
+    [ quick ↦ clash | second ↦ clash | longer ↦ λ _. refl | device ↦ clash | cached ↦ clash | uncached ↦ clash | clearing ↦ clash ]
+
+pub cached-is : (k : Kind) → isCached k ≡ true → k ≡ cached
+cached-is k = elim k as (λ j. isCached j ≡ true → j ≡ cached)
+    [ quick ↦ clash | second ↦ clash | longer ↦ clash | device ↦ clash | cached ↦ λ _. refl | uncached ↦ clash | clearing ↦ clash ]
+
+pub uncached-is : (k : Kind) → isUncached k ≡ true → k ≡ uncached
+uncached-is k = elim k as (λ j. isUncached j ≡ true → j ≡ uncached)
+    [ quick ↦ clash | second ↦ clash | longer ↦ clash | device ↦ clash | cached ↦ clash | uncached ↦ λ _. refl | clearing ↦ clash ]
+
+pub clearing-is : (k : Kind) → isClearing k ≡ true → k ≡ clearing
+clearing-is k = elim k as (λ j. isClearing j ≡ true → j ≡ clearing)
+    [ quick ↦ clash | second ↦ clash | longer ↦ clash | device ↦ clash | cached ↦ clash | uncached ↦ clash | clearing ↦ λ _. refl ]

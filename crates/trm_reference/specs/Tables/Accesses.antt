@@ -4,7 +4,7 @@
 use Prim.Native.Nat.{ℕ}
 use mathlib.Core.List.{List, [], _∷_, _++_}
 use lib.ListN.{replicate}
-use Rattle.trm_reference.specs.Visible.{Visible, register}
+use Rattle.trm_reference.specs.Visible.{register}
 use Rattle.trm_reference.specs.Access.{addressOf, Answer, answerOf}
 use Rattle.trm_reference.specs.Reference.{Reference, referenceReset}
 use Rattle.trm_reference.specs.Tables.{Row, row, literalWord, loadWord, storeWord, holding, seen, machine, stateAfter, quiet}
