@@ -140,9 +140,7 @@ def clocked(word, record):
 
 def reset_cases():
     yield reset([0] * 63), 'reset: a store of 63 words'
-    yield reset([0] * 65536), 'reset: a store of 65,536 words'
     yield reset([0] * 64), 'reset: a store of 64 words'
-    yield reset([0] * 32768), 'reset: a store of 32,768 words'
 
 
 def clock_cases():
@@ -269,14 +267,12 @@ def run_cases():
     yield run(NEVER, ready, [0] * 128, three, three, three, three), 'run: a store of 128 words, 256 at reset'
     yield run(NEVER, flying(0, 0, 1), RAM, three, three, three, three), 'run: phase 0, count 1'
     yield run(NEVER, ready, RAM, three, [0] * 4, three, three), 'run: an input word too many'
-    yield run(NEVER, ready, RAM, [0] * 65537, [0] * 65537, [0] * 65537, [0] * 65537), 'run: 65,537 clocks'
     yield run(NEVER, ready, RAM, [0, 0, 8], three, three, three), 'run: the last line byte 8'
     yield run(NEVER, ready, RAM, three, three, [0] * 4, three), 'run: an answer byte too many'
     yield run(NEVER, ready, RAM, three, three, three, [0] * 2), 'run: an answer word too few'
     yield run(NEVER, counted(MOST_CLOCKS - 2), RAM, three, three, three, three), 'run: 3 clocks after 4,294,967,293'
     yield run(NEVER, counted(MOST_CLOCKS - 3), RAM, three, three, three, three), 'run: 3 clocks after 4,294,967,292'
     yield run(NEVER, ready, RAM, [0, 3, 7], three, three, three), 'run: 3 clocks'
-    yield run(NEVER, ready, RAM, [0] * 65536, [0] * 65536, [0] * 65536, [0] * 65536), 'run: 65,536 clocks'
     yield run(NEVER, last, RAM, [], [], [], []), 'run: no clock, after 4,294,967,295'
 
 

@@ -127,9 +127,7 @@ AllGive (r ∷ rs) = (r .gives ≡ r .expected) × AllGive rs
 unfoldable pub rows : List Row
 rows =
     row (resetRefusal (zeros 63)) 4  -- reset: a store of 63 words
-    ∷ row (resetRefusal (zeros 65536)) 4  -- reset: a store of 65,536 words
     ∷ row (resetRefusal (zeros 64)) 0  -- reset: a store of 64 words
-    ∷ row (resetRefusal (zeros 32768)) 0  -- reset: a store of 32,768 words
     ∷ row (clockGives [] ready 256 0) 3  -- clock: no word
     ∷ row (clockGives (zeros 4097) ready 256 0) 3  -- clock: 4,097 words
     ∷ row (clockGives (0x40000 ∷ []) ready 256 0) 3  -- clock: the word 40000H
@@ -225,14 +223,12 @@ rows =
     ∷ row (runGives never ready 128 (zeros 3) (zeros 3) (zeros 3) (zeros 3)) 4  -- run: a store of 128 words, 256 at reset
     ∷ row (runGives never broken 256 (zeros 3) (zeros 3) (zeros 3) (zeros 3)) 5  -- run: phase 0, count 1
     ∷ row (runGives never ready 256 (zeros 3) (zeros 4) (zeros 3) (zeros 3)) 6  -- run: an input word too many
-    ∷ row (runGives never ready 256 (zeros 65537) (zeros 65537) (zeros 65537) (zeros 65537)) 6  -- run: 65,537 clocks
     ∷ row (runGives never ready 256 (0 ∷ 0 ∷ 8 ∷ []) (zeros 3) (zeros 3) (zeros 3)) 6  -- run: the last line byte 8
     ∷ row (runGives never ready 256 (zeros 3) (zeros 3) (zeros 4) (zeros 3)) 7  -- run: an answer byte too many
     ∷ row (runGives never ready 256 (zeros 3) (zeros 3) (zeros 3) (zeros 2)) 7  -- run: an answer word too few
     ∷ row (runGives never (counted 4294967293 0 0 0) 256 (zeros 3) (zeros 3) (zeros 3) (zeros 3)) 8  -- run: 3 clocks after 4,294,967,293
     ∷ row (runGives never (counted 4294967292 0 0 0) 256 (zeros 3) (zeros 3) (zeros 3) (zeros 3)) 0  -- run: 3 clocks after 4,294,967,292
     ∷ row (runGives never ready 256 (0 ∷ 3 ∷ 7 ∷ []) (zeros 3) (zeros 3) (zeros 3)) 0  -- run: 3 clocks
-    ∷ row (runGives never ready 256 (zeros 65536) (zeros 65536) (zeros 65536) (zeros 65536)) 0  -- run: 65,536 clocks
     ∷ row (runGives never (counted 4294967295 0 0 0) 256 [] [] [] []) 0  -- run: no clock, after 4,294,967,295
     ∷ row (lookGives [] ready 256 0) 3  -- look: no word
     ∷ row (lookGives never ready 128 0) 4  -- look: a store of 128 words, 256 at reset
