@@ -32,17 +32,22 @@ PROGRAM = [
     (ld(6, 7, 1), 'LD R6 from 1: block 0 refills again'),
     (ld(0, 7, 130), 'LD R0 from 130: a clean miss on line 0, which is full'),
     (st(6, 1, 9), 'ST R6 to device 9'),
-    (branch(14, -1), 'branch always to itself'),
+    (branch(14, 4), 'branch always to 28'),
     (mov_h(5), 'the call: R5 := H'),
     (jump(7), 'and back'),
     (imm(m.ADD, 1, 1), 'interrupt 0: R1 of bank 1 one up'),
     (rti(7), 'RTI'),
+    (st(4, 7, 130), 'ST R4 to 130: a hit on line 0'),
+    (ld(2, 7, 130), 'LD R2 from 130: a hit on a dirty line'),
+    (st(2, 7, 9), 'ST R2 to 9: a clean miss on line 1'),
+    (ld(5, 7, 137), 'LD R5 from 137: a dirty miss on line 1, while line 0 is dirty too'),
+    (branch(14, -1), 'branch always to itself'),
 ]
 
 # how many clocks have a line byte: 4 is the stall, 1 and 2 the interrupts
 LINES = [
     (5, 0), (1, 4), (7, 0), (1, 4), (11, 0), (1, 1), (1, 0), (1, 4), (31, 0), (18, 1), (1, 5), (1, 1), (4, 3), (2, 2), (64, 0),
-    (10, 2), (4, 0), (1, 4), (37, 0),
+    (10, 2), (4, 0), (1, 4), (76, 0),
 ]
 
 WORDS = 256

@@ -102,7 +102,7 @@ clocked w m = clockGives (w ∷ []) m 256 0
 unfoldable pub clockedIn : After Lent Answer → ℕ
 clockedIn t = clockRefusal paperGeometry program (t .state .machine) (t .state .store) 0
 
--- the scenario after clock k, which is 1 to 201: the difference does not truncate, and 99 is not reached
+-- the scenario after clock k, which is 1 to 240: the difference does not truncate, and 99 is not reached
 unfoldable pub scenarioAfter : ℕ → ℕ
 scenarioAfter k = getD (map clockedIn recordHistory) (k - 1) 99
 
