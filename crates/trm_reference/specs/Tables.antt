@@ -127,10 +127,12 @@ cacheOff = machine (holding 0xFFC0 0 0) 256 []
 abbrev pub cacheWith : List Event → Reference
 cacheWith h = machine (holding 0xFFC0 0 8) 256 h
 
--- the places, from k on, at which the second list is not as the first, each with what it has there
+-- the places, from k on, at which the second list is not as the first, each with what it has there; and alone the place at which
+-- one list is over before the other
 unfoldable pub changedFrom : ℕ → List ℕ → List ℕ → List ℕ
-changedFrom k [] ys = []
-changedFrom k (x ∷ xs) [] = []
+changedFrom k [] [] = []
+changedFrom k [] (y ∷ ys) = k ∷ []
+changedFrom k (x ∷ xs) [] = k ∷ []
 changedFrom k (x ∷ xs) (y ∷ ys) = cond (eqb x y) (changedFrom (suc k) xs ys) (k ∷ y ∷ changedFrom (suc k) xs ys)
 
 -- PC; each register that is not as before, by its place (0–7 in bank 0, 8–15 in bank 1) and what it is; H, N, Z, C, V, status

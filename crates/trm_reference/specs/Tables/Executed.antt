@@ -33,6 +33,8 @@ executed =
     ∷ row (carried (branchWord 14 511) (seen 0x123 0 0 0 0 0)) (0x323 ∷ 0x8000_0005 ∷ 0 ∷ 0 ∷ 0 ∷ 0 ∷ 0 ∷ [])
     ∷ row (carried (branchWord 14 1023) (seen 0x323 0 0 0 0 0)) (0x323 ∷ 0x8000_0005 ∷ 0 ∷ 0 ∷ 0 ∷ 0 ∷ 0 ∷ [])
     ∷ row (carried (branchWord 14 512) (seen 0x323 0 0 0 0 0)) (0x124 ∷ 0x8000_0005 ∷ 0 ∷ 0 ∷ 0 ∷ 0 ∷ 0 ∷ [])
+    -- by −1 under condition 1, not Z, whose lowest bit stands above the offset's ten
+    ∷ row (carried (branchWord 1 1023) (seen 0x323 0 0 0 0 0)) (0x323 ∷ 0x8000_0005 ∷ 0 ∷ 0 ∷ 0 ∷ 0 ∷ 0 ∷ [])
     -- "PC and PC+1 are taken mod 4,096": from 4,095 by 511 and by −1, from 0 by −512
     ∷ row (carried (branchWord 14 511) (seen 0xFFF 0 0 0 0 0)) (511 ∷ 0x8000_0005 ∷ 0 ∷ 0 ∷ 0 ∷ 0 ∷ 0 ∷ [])
     ∷ row (carried (branchWord 14 1023) (seen 0xFFF 0 0 0 0 0)) (4095 ∷ 0x8000_0005 ∷ 0 ∷ 0 ∷ 0 ∷ 0 ∷ 0 ∷ [])

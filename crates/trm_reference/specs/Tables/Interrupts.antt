@@ -3,7 +3,7 @@
 -- Assumes nothing.
 use Prim.Native.Nat.{ℕ}
 use mathlib.Core.List.{List, [], _∷_}
-use lib.ListN.{getD}
+use lib.ListN.{getD, replicate}
 use Rattle.trm_reference.specs.Interrupt.{interruptChosen, interrupted}
 use Rattle.trm_reference.specs.Trace.{outsOf, finishedIn}
 use Rattle.trm_reference.specs.Reference.{Reference}
@@ -28,7 +28,7 @@ reached p q lines =
     ∷ []
 
 -- a program with branch never at 3 and RTI by R7 at 2; one that calls 5 from 0; machines at PC 3, flags 1010,
--- the second with cache on, interrupt 0 enabled and line 0 dirty; a machine at PC 0, flags 0101
+-- the second with cache on, interrupt 0 enabled, line 0 dirty and counts that are not zero; a machine at PC 0, flags 0101
 abbrev pub handler : List ℕ
 handler = literalWord 0 1 5 ∷ literalWord 0 1 6 ∷ jumpWord 1 0 7 ∷ 0x3BC00 ∷ []
 
@@ -39,7 +39,17 @@ abbrev pub atNever : ℕ → Reference
 atNever status = machine (seen 3 1 0 1 0 status) 256 []
 
 abbrev pub atDirty : Reference
-atDirty = machine (seen 3 1 0 1 0 9) 256 (storeOf 0 ∷ [])
+atDirty =
+    record {
+      visible = seen 3 1 0 1 0 9;
+      memory = replicate 256 9;
+      history = storeOf 0 ∷ [];
+      left = 0;
+      clocks = 50;
+      held = 4;
+      refills = 3;
+      writebacks = 2;
+    }
 
 abbrev pub atCall : ℕ → Reference
 atCall status = machine (seen 0 0 1 0 1 status) 256 []
@@ -72,10 +82,11 @@ interrupts =
     ∷ row (reached handler (atNever 1) (1 ∷ [])) (2 ∷ 0xA000_0003 ∷ 5 ∷ 0 ∷ 1 ∷ 0 ∷ 0 ∷ [])
     ∷ row (reached caller (atNever 2) (2 ∷ [])) (3 ∷ 0xA000_0003 ∷ 6 ∷ 0 ∷ 1 ∷ 0 ∷ 0 ∷ [])
     ∷ row (reached handler (atNever 3) (3 ∷ [])) (2 ∷ 0xA000_0003 ∷ 7 ∷ 0 ∷ 1 ∷ 0 ∷ 0 ∷ [])
-    -- PC, the status and bank 1's R7 change and nothing else: their places in `restOf` are 4, 10 and 26
+    -- PC, the status and bank 1's R7 change, the clock count and nothing else: their places in `restOf` are 4, 10 and 26
     ∷ row
     (changedFrom 0 (restOf atDirty) (restOf (stateAfter handler atDirty (1 ∷ []))))
     (4 ∷ 2 ∷ 10 ∷ 13 ∷ 26 ∷ 0xA000_0003 ∷ [])
+    ∷ row (reached handler atDirty (1 ∷ [])) (2 ∷ 0xA000_0003 ∷ 13 ∷ 0 ∷ 51 ∷ 4 ∷ 0 ∷ [])
     -- "Otherwise it begins an instruction": no line high, in the program and beyond it; not enabled; mode 1
     ∷ row (reached handler (atNever 3) (0 ∷ [])) (4 ∷ 0x10F ∷ 3 ∷ 0 ∷ 1 ∷ 0 ∷ 1 ∷ [])
     ∷ row (reached caller (atNever 3) (0 ∷ [])) (4 ∷ 0x10F ∷ 3 ∷ 0 ∷ 1 ∷ 0 ∷ 1 ∷ [])
@@ -91,6 +102,7 @@ interrupts =
     -- "A clock with stall set is held: it adds one to the clock and held counts and does nothing else": ready, and in flight
     ∷ row (reached handler (atNever 1) (5 ∷ [])) (3 ∷ 0x10F ∷ 1 ∷ 0 ∷ 1 ∷ 1 ∷ 0 ∷ [])
     ∷ row (reached caller (atCall 3) (0 ∷ 7 ∷ [])) (0 ∷ 0x10F ∷ 3 ∷ 1 ∷ 2 ∷ 1 ∷ 0 ∷ [])
-    ∷ row (restOf (stateAfter handler (atNever 1) (5 ∷ []))) (restOf (atNever 1))
+    ∷ row (reached handler atDirty (5 ∷ [])) (3 ∷ 0x10F ∷ 9 ∷ 0 ∷ 51 ∷ 5 ∷ 0 ∷ [])
+    ∷ row (restOf (stateAfter handler atDirty (5 ∷ []))) (restOf atDirty)
     ∷ row (restOf (stateAfter caller (atCall 3) (0 ∷ 7 ∷ []))) (restOf (stateAfter caller (atCall 3) (0 ∷ [])))
     ∷ []
