@@ -29,9 +29,8 @@ abbrev pub start : Geometry → List ℕ → Lent
 start G s = record { machine = resetOf G s; store = s }
 
 -- DEMAND 3. For every program p, a bad one too, every first memory s that reset accepts and every list cs of clock calls and runs,
--- refused
--- ones included: at the start and after every clock all that a programmer sees, memory as a copy gives it and all counts, each answer,
--- each refusal number and each run's counts and buffers are those of the reference machine. One equation of two logs.
+-- refused ones included: at the start and after every clock all that a programmer sees, memory as a copy gives it and all counts,
+-- each answer, each refusal number and each run's counts and buffers are those of the reference machine. One equation of two logs.
 abbrev pub SameLog : Type 0
 SameLog =
     (G : Geometry) (p s : List ℕ) (cs : List Call) → geometryOk G ≡ true → resetRefusal s ≡ 0
@@ -55,9 +54,8 @@ CallsAreClocks =
     → stateOf feed answer (referenceEngine G p) q cs
     ≡ endOf q (clocks (referenceClock G p) q (fedOf feed answer (referenceEngine G p) q cs))
 
--- The ledger after any clocks: clocks = held + charges of what finished + unheld clocks spent on the one in flight; what is spent and
--- what
--- is left are its charge; what finished took its charge.
+-- The ledger after any clocks: clocks = held + charges of what finished + unheld clocks spent on the one in flight; what is spent
+-- and what is left are its charge; what finished took its charge.
 pub record Booked (G : Geometry) (p : List ℕ) (q : Reference) (ds : List Did) : Type 0 where
   pub sum : q .clocks ≡ heldIn ds + chargesIn ds + spentIn ds
   pub held : q .held ≡ heldIn ds
