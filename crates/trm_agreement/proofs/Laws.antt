@@ -17,3 +17,4 @@ pub mod Ledger
 pub mod Interrupts
 pub mod Devices
 pub mod Numbers
+pub mod Runs

@@ -2,8 +2,9 @@
 -- Idea: each field is a law of Laws/.
 -- Assumes nothing.
 use Rattle.trm_agreement.specs.Claims.{Claims}
-use Rattle.trm_agreement.proofs.Laws.Demand.{same-log}
+use Rattle.trm_agreement.proofs.Laws.Demand.{same-log, reset-kept}
 use Rattle.trm_agreement.proofs.Laws.Numbers.{never-five, calls-are-clocks}
+use Rattle.trm_agreement.proofs.Laws.Runs.{runs-are-runs}
 use Rattle.trm_agreement.proofs.Laws.Ledger.{ledger-kept, bounded}
 use Rattle.trm_agreement.proofs.Laws.Devices.{devices-hold, quiet-clocks}
 use Rattle.trm_agreement.proofs.Laws.Interrupts.{interrupts-hold}
@@ -11,9 +12,13 @@ use Rattle.trm_agreement.proofs.Laws.Interrupts.{interrupts-hold}
 pub theorems : Claims
 theorems =
     record {
+      reference = reference-theorems;
+      core = core-theorems;
       same-log = same-log;
       never-five = never-five;
       calls-are-clocks = calls-are-clocks;
+      runs-are-runs = runs-are-runs;
+      reset-kept = reset-kept;
       ledger-kept = ledger-kept;
       bounded = bounded;
       devices-hold = devices-hold;

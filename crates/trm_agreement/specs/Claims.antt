@@ -9,6 +9,7 @@ use mathlib.Core.List.{List, [], _∷_}
 use lib.ListN.{length}
 use lib.Dec.{eqb}
 use Rattle.trm_word.specs.Fields.{bit, destination}
+use Rattle.trm_alu.specs.Word.{flag}
 use Rattle.trm_reference.specs.Geometry.{Geometry, paperGeometry, geometryOk}
 use Rattle.trm_reference.specs.Visible.{Visible, register, wordAt}
 use Rattle.trm_reference.specs.Access.{isLoad, isStore, placeOfWord, deviceNumber, toDevice, loaded, silent, answerOf}
@@ -17,11 +18,13 @@ use Rattle.trm_reference.specs.Interrupt.{stalled, interruptChosen}
 use Rattle.trm_reference.specs.Trace.{Pins, clocks, endOf, outsOf}
 use Rattle.trm_reference.specs.Reference.{Reference, charge, takeOff, referenceHeld, referenceInterrupt, referenceClock, referenceReset}
 use Rattle.trm_core.specs.Record.{Lent, resetOf}
-use Rattle.trm_core.specs.Refusals.{resetRefusal}
-use Rattle.trm_agreement.specs.Log.{logOf, codesOf, fedOf, stateOf}
-use Rattle.trm_agreement.specs.Calls.{Call, feed, answer, recordEngine, referenceEngine}
-use Rattle.trm_agreement.specs.Ledger.{Did, heldIn, chargesIn, spentIn, Took, due, ledgerFrom, longest}
-use Rattle.trm_agreement.specs.Devices.{accessesOf, deviceAnswers}
+use Rattle.trm_core.specs.Refusals.{resetRefusal, runRefusal}
+use Rattle.trm_core.specs.Run.{runOf}
+use Rattle.trm_core.specs.Claims.{Kept, Claims as CoreClaims}
+use Rattle.trm_agreement.specs.Log.{clocksOf, logOf, codesOf, answersIn, fedOf, stateOf}
+use Rattle.trm_agreement.specs.Calls.{Call, runCall, feed, answer, runEnds, recordEngine, referenceEngine}
+use Rattle.trm_agreement.specs.Ledger.{Did, heldIn, chargesIn, spentIn, isFinish, Took, due, did, ledgerFrom, longest}
+use Rattle.trm_agreement.specs.Devices.{finishes, accessesOf, deviceAnswers}
 
 -- the record and the store after an accepted reset
 abbrev pub start : Geometry → List ℕ → Lent
@@ -30,6 +33,8 @@ start G s = record { machine = resetOf G s; store = s }
 -- DEMAND 3. For every program p, a bad one too, every first memory s that reset accepts and every list cs of clock calls and runs,
 -- refused ones included: at the start and after every clock all that a programmer sees, memory as a copy gives it and all counts,
 -- each answer, each refusal number and each run's counts and buffers are those of the reference machine. One equation of two logs.
+-- Both logs share, and so do not judge: what a word does (`execute`), the clock table (`chargeBy`), the answers, the interrupt rule,
+-- rows 3 and 6 to 8, `feed` and `answer`. For these stand the tables of trm_reference, the scenario and `runs-are-runs`.
 abbrev pub SameLog : Type 0
 SameLog =
     (G : Geometry) (p s : List ℕ) (cs : List Call) → geometryOk G ≡ true → resetRefusal s ≡ 0
@@ -46,12 +51,32 @@ NeverFive =
     (G : Geometry) (p s : List ℕ) (cs : List Call) → geometryOk G ≡ true → resetRefusal s ≡ 0
     → All (λ code. code ≢ 5) (codesOf feed answer (recordEngine G p) (start G s) cs)
 
--- A list of calls is a list of clocks: those of the calls that were not refused.
-abbrev pub CallsAreClocks : Type 0
-CallsAreClocks =
-    (G : Geometry) (p : List ℕ) (q : Reference) (cs : List Call)
-    → stateOf feed answer (referenceEngine G p) q cs
-    ≡ endOf q (clocks (referenceClock G p) q (fedOf feed answer (referenceEngine G p) q cs))
+-- A list of calls is a list of clocks, those of the calls that were not refused: its last state, and the answers of its log.
+pub record CallsAreClocks (G : Geometry) (p : List ℕ) (q : Reference) (cs : List Call) : Type 0 where
+  pub state : stateOf feed answer (referenceEngine G p) q cs
+      ≡ endOf q (clocks (referenceClock G p) q (fedOf feed answer (referenceEngine G p) q cs))
+  pub answers : answersIn (logOf feed answer (referenceEngine G p) q cs)
+      ≡ outsOf (clocks (referenceClock G p) q (fedOf feed answer (referenceEngine G p) q cs))
+
+-- A run that is not refused is `runOf`, which its contract will cite: one clock to a line byte, its last state, counts and buffers.
+pub record RunIs (G : Geometry) (p : List ℕ) (x : Lent) (lines inputs bytes words : List ℕ) : Type 0 where
+  pub clocks : length (clocksOf feed answer (recordEngine G p) x (runCall lines inputs bytes words)) ≡ length lines
+  pub state : endOf x (clocksOf feed answer (recordEngine G p) x (runCall lines inputs bytes words))
+      ≡ runOf G p x lines inputs .state
+  pub reports : answer 0 (runCall lines inputs bytes words)
+      (outsOf (clocksOf feed answer (recordEngine G p) x (runCall lines inputs bytes words)))
+      ≡ runEnds 0 (runOf G p x lines inputs .used) (runOf G p x lines inputs .finished) (runOf G p x lines inputs .bytes)
+      (runOf G p x lines inputs .words)
+
+abbrev pub RunsAreRuns : Type 0
+RunsAreRuns =
+    (G : Geometry) (p : List ℕ) (x : Lent) (lines inputs bytes words : List ℕ)
+    → runRefusal G p (x .machine) (x .store) lines inputs bytes words ≡ 0 → RunIs G p x lines inputs bytes words
+
+-- The record after an accepted reset is accepted: with `record-kept`, so is every record of a list.
+abbrev pub ResetKept : Type 0
+ResetKept =
+    (G : Geometry) (p s : List ℕ) → geometryOk G ≡ true → resetRefusal s ≡ 0 → Kept G p (start G s)
 
 -- The ledger after any clocks: clocks = held + charges of what finished + unheld clocks spent on the one in flight; what is spent
 -- and what is left are its charge; what finished took its charge.
@@ -67,13 +92,17 @@ LedgerKept =
     (G : Geometry) (p s : List ℕ) (is : List Pins)
     → Booked G p (endOf (referenceReset s) (clocks (referenceClock G p) (referenceReset s) is)) (ledgerFrom G p (referenceReset s) is [])
 
--- No instruction takes more unheld clocks than the longest: 161 with the paper's cache.
+-- Every charge is 1 at least and the longest at most, which is 161 with the paper's cache: by `took`, no instruction takes more.
 pub record Bounded : Type 0 where
+  pub fits : geometryOk paperGeometry ≡ true
+  pub positive : (G : Geometry) (w : ℕ) (q : Reference) → 1 ≤ charge G w q
   pub charges : (G : Geometry) (w : ℕ) (q : Reference) → charge G w q ≤ longest G
   pub paper : longest paperGeometry ≡ 161
 
 -- Devices, clock by clock: the clock that carries a word out answers for it, any other clock is silent.
 pub record Told (G : Geometry) (p : List ℕ) (q : Reference) (pins : Pins) : Type 0 where
+  pub counts : referenceClock G p q pins .out .done ≡ flag (finishes G p q pins)
+  pub booked : isFinish (did G p q pins) ≡ finishes G p q pins
   pub done : referenceClock G p q pins .out .done ≡ 1 → referenceClock G p q pins .out
       ≡ answerOf (wordAt p (q .visible .pc)) (q .visible) (length (q .memory)) (pins .input)
   pub quiet : referenceClock G p q pins .out .done ≡ 0 → referenceClock G p q pins .out ≡ silent 0
@@ -121,6 +150,15 @@ pub record Rule (status line : ℕ) : Type 0 where
   pub zeroth : bit 2 status ≡ 0 → bit 0 status ≡ 1 → bit 0 line ≡ 1 → interruptChosen status line ≡ 2
   pub first : bit 2 status ≡ 0 → bit 0 status * bit 0 line ≡ 0 → bit 1 status ≡ 1 → bit 1 line ≡ 1 → interruptChosen status line ≡ 3
 
+-- The whole rule in one line: unheld, nothing in flight, mode 0, and an enabled line high.
+abbrev pub When : Reference → Pins → Type 0
+When q pins =
+    acknowledged q pins
+    ≡ not (eqb (bit 2 (pins .line)) 1) && eqb (q .left) 0
+    && (not (eqb (bit 2 (q .visible .status)) 1)
+    && (eqb (bit 0 (q .visible .status)) 1 && eqb (bit 0 (pins .line)) 1
+    || eqb (bit 1 (q .visible .status)) 1 && eqb (bit 1 (pins .line)) 1))
+
 -- When it is taken: held, nothing; between instructions, the interrupt named, or else the word begins; in flight, the word goes on.
 pub record Taken (G : Geometry) (p : List ℕ) (q : Reference) (pins : Pins) : Type 0 where
   pub held : stalled (pins .line) ≡ true → referenceClock G p q pins ≡ referenceHeld q
@@ -134,12 +172,18 @@ pub record Taken (G : Geometry) (p : List ℕ) (q : Reference) (pins : Pins) : T
 
 pub record InterruptsHold : Type 0 where
   pub rule : (status line : ℕ) → Rule status line
+  pub iff : (q : Reference) (pins : Pins) → When q pins
   pub taken : (G : Geometry) (p : List ℕ) (q : Reference) (pins : Pins) → Taken G p q pins
 
+-- All claims: those of the two machines below, and these.
 pub record Claims : Type 0 where
+  pub reference : ReferenceClaims
+  pub core : CoreClaims
   pub same-log : SameLog
   pub never-five : NeverFive
-  pub calls-are-clocks : CallsAreClocks
+  pub calls-are-clocks : (G : Geometry) (p : List ℕ) (q : Reference) (cs : List Call) → CallsAreClocks G p q cs
+  pub runs-are-runs : RunsAreRuns
+  pub reset-kept : ResetKept
   pub ledger-kept : LedgerKept
   pub bounded : Bounded
   pub devices-hold : DevicesHold

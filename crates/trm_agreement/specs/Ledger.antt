@@ -1,11 +1,11 @@
 -- The ledger: what each clock of the reference machine went on, told from the state before it; no field of the machine keeps it.
 -- Paper: "In flight, charges count the clocks already spent"; the clocks are the held ones, the charges of what finished, and the unheld
 -- clocks spent on the one in flight. Assumes nothing.
---   did G p q pins   what a clock went on        ledgerOf G p q is   those of a list of clocks, the latest first
+--   did G p q pins   what a clock went on        ledgerFrom G p q is ds   those of a list of clocks, the latest first
 --   heldIn, chargesIn, spentIn   its three sums        longest G   the greatest charge
 use Prim.Native.Nat.{ℕ, suc, _+_, _*_, max}
 use mathlib.Core.Path.{_≡_}
-use mathlib.Core.Bool.{cond}
+use mathlib.Core.Bool.{Bool, true, false, cond}
 use mathlib.Core.List.{List, [], _∷_}
 use lib.Dec.{eqb}
 use Rattle.trm_reference.specs.Geometry.{Geometry, burst}
@@ -43,6 +43,13 @@ spentIn (waited ∷ ds) = spentIn ds
 spentIn (acknowledged ∷ ds) = 0
 spentIn (worked ∷ ds) = suc (spentIn ds)
 spentIn (finished c ∷ ds) = 0
+
+-- the last clock of an instruction
+unfoldable pub isFinish : Did → Bool
+isFinish waited = false
+isFinish acknowledged = false
+isFinish worked = false
+isFinish (finished c) = true
 
 -- each instruction that finished took as many unheld clocks as it was charged
 unfoldable pub Took : List Did → Type 0

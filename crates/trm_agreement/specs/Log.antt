@@ -3,6 +3,7 @@
 -- Assumes nothing.
 --   Engine                      a machine: one clock, what is seen of a state, the number by which a call is turned down
 --   logOf feed answer E x cs    the log        codesOf   the numbers alone
+--   answersIn                   the answers of a log's clocks
 --   fedOf, stateOf              the inputs of the calls that were not turned down; the state after all calls
 use Prim.Native.Nat.{ℕ}
 use mathlib.Core.Bool.{cond}
@@ -53,3 +54,10 @@ module _ {S I O W C A : Type 0} (feed : C → List I) (answer : ℕ → C → Li
   unfoldable pub stateOf : S → List C → S
   stateOf x [] = x
   stateOf x (c ∷ cs) = stateOf (endOf x (clocksOf x c)) cs
+
+-- the answers of the clocks in a log, and what its calls returned
+unfoldable pub answersIn : {O W A : Type 0} → List (Entry O W A) → List O
+answersIn [] = []
+answersIn (started w ∷ es) = answersIn es
+answersIn (clocked w o ∷ es) = o ∷ answersIn es
+answersIn (ended a ∷ es) = answersIn es

@@ -13,5 +13,6 @@ pub mod Phases
 pub mod Goes
 pub mod Table
 pub mod Kept
+pub mod Limits
 pub mod Scenario
 pub mod Refused

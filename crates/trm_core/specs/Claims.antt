@@ -5,30 +5,31 @@ use Prim.Native.Nat.{ℕ, _+_, _-_, _*_, _≤_}
 use mathlib.Core.Path.{_≡_}
 use mathlib.Core.Logic.{_≢_}
 use mathlib.Core.Bool.{Bool, true, false, cond, not, _&&_}
-use mathlib.Core.List.{List}
-use lib.ListN.{length}
+use mathlib.Core.List.{List, [], _∷_, map}
+use lib.ListN.{length, replicate}
 use lib.Dec.{eqb}
 use Rattle.trm_word.specs.Fields.{operation, bit}
 use Rattle.trm_word.specs.Charge.{chargeOf}
+use Rattle.trm_word.specs.Address.{storeLengthOk}
 use Rattle.trm_alu.specs.Word.{flag}
 use Rattle.trm_reference.specs.Geometry.{Geometry, burst, geometryOk}
 use Rattle.trm_reference.specs.Visible.{Visible, wordAt}
-use Rattle.trm_reference.specs.Access.{silent}
+use Rattle.trm_reference.specs.Access.{Answer, silent}
 use Rattle.trm_reference.specs.Interrupt.{stalled, interruptChosen, interrupted}
 use Rattle.trm_reference.specs.Charge.{turnsCacheOff, uncachedCharge}
-use Rattle.trm_reference.specs.Trace.{Pins}
+use Rattle.trm_reference.specs.Trace.{Pins, After}
 use Rattle.trm_core.specs.declared.record.Running.{Running}
 use Rattle.trm_core.specs.declared.record.Machine.{Machine}
 use Rattle.trm_core.specs.Cache.{Cache, stride, countDirty}
 use Rattle.trm_core.specs.Record.{Lent, visibleOf, cacheOf}
 use Rattle.trm_core.specs.Clock.{chargeHere, carried, worked, heldClock, clockOf}
 use Rattle.trm_core.specs.Rule.{recordOk}
-use Rattle.trm_core.specs.Refusals.{storeOk, clockRefusal}
+use Rattle.trm_core.specs.Refusals.{allAtMost, linesRefused, storeOk, clockRefusal}
 use Rattle.trm_core.specs.Scenario.{spread, recordDigest, referenceDigest, finishes, phases}
 use Rattle.trm_core.specs.Scenario.{expectedRecordDigest, expectedReferenceDigest, expectedFinishes, expectedPhases}
 use Rattle.trm_core.specs.Refused.{AllGive, rows}
 
--- The record's arrays hold sixteen registers and all lines: of the record of the code this is so by its type.
+-- The record's arrays hold sixteen registers and all lines: of the record of the code, whose geometry is the paper's, by its type.
 pub record Shaped (G : Geometry) (m : Machine) : Type 0 where
   pub regs : 16 ≤ length (m .regs)
   pub full : G .lines ≤ length (m .full)
@@ -53,15 +54,16 @@ toCome G p x =
     leftOf G (wordAt p (x .machine .scalars .pc)) (length (x .store)) (x .machine .scalars .running)
     (visibleOf (x .machine)) (cacheOf (x .machine))
 
--- the clock takes an interrupt
+-- the clock, if it is not held, takes an interrupt
 unfoldable pub acknowledges : Machine → Pins → Bool
 acknowledges m pins =
     eqb (m .scalars .running .phase) 0 && not (eqb (interruptChosen (m .scalars .status) (pins .line)) 0)
 
 -- The clock table on any accepted record: an unheld clock without an interrupt carries the word out iff one clock was to come, and
--- else leaves one fewer.
+-- else leaves one fewer and answers nothing: so a load shows its device once.
 pub record Counted (G : Geometry) (p : List ℕ) (x : Lent) (pins : Pins) : Type 0 where
   pub carries : clockOf G p x pins .out .done ≡ flag (eqb (toCome G p x) 1)
+  pub silence : toCome G p x ≢ 1 → clockOf G p x pins .out ≡ silent 0
   pub lowers : toCome G p x ≢ 1 → toCome G p (clockOf G p x pins .state) + 1 ≡ toCome G p x
 
 abbrev pub ClockTable : Type 0
@@ -83,8 +85,8 @@ RecordKept =
     → clockRefusal G p (x .machine) (x .store) (pins .line) ≡ 0
     → Kept G p (clockOf G p x pins .state)
 
--- The earlier simulator read its device in both clocks of a load. For every record, accepted or not: if the answer byte shows no read,
--- the whole outcome of the clock is the same for every input word.
+-- For every record, accepted or not: an input word matters only in a clock whose answer byte shows a read. (The earlier simulator read
+-- its device in both clocks of a load; that a load shows its read in one clock alone is `silence` above.)
 abbrev pub Deaf : Type 0
 Deaf =
     (G : Geometry) (p : List ℕ) (x : Lent) (line i j : ℕ)
@@ -101,6 +103,23 @@ pub record Clocked (G : Geometry) (p : List ℕ) (x : Lent) (pins : Pins) : Type
   pub works : stalled (pins .line) ≡ false → acknowledges (x .machine) pins ≡ false
       → clockOf G p x pins
       ≡ worked G (wordAt p (x .machine .scalars .pc)) (length (x .store)) (x .machine) (x .store) (pins .input)
+
+-- A held clock, written out: clocks and held are one more, and nothing else changes.
+pub record Waits (x : Lent) (t : After Lent Answer) : Type 0 where
+  pub visible : visibleOf (t .state .machine) ≡ visibleOf (x .machine)
+  pub running : t .state .machine .scalars .running ≡ x .machine .scalars .running
+  pub cache : cacheOf (t .state .machine) ≡ cacheOf (x .machine)
+  pub store : t .state .store ≡ x .store
+  pub size : t .state .machine .scalars .size ≡ x .machine .scalars .size
+  pub clocks : t .state .machine .scalars .counts .clocks ≡ x .machine .scalars .counts .clocks + 1
+  pub held : t .state .machine .scalars .counts .held ≡ x .machine .scalars .counts .held + 1
+  pub refills : t .state .machine .scalars .counts .refills ≡ x .machine .scalars .counts .refills
+  pub writebacks : t .state .machine .scalars .counts .writebacks ≡ x .machine .scalars .counts .writebacks
+  pub answer : t .out ≡ silent 0
+
+abbrev pub HeldWaits : Type 0
+HeldWaits =
+    (G : Geometry) (p : List ℕ) (x : Lent) (pins : Pins) → stalled (pins .line) ≡ true → Waits x (clockOf G p x pins)
 
 abbrev pub ClocksAreThree : Type 0
 ClocksAreThree = (G : Geometry) (p : List ℕ) (x : Lent) (pins : Pins) → Clocked G p x pins
@@ -129,11 +148,23 @@ ScenarioHolds =
 abbrev pub RefusalsHold : Type 0
 RefusalsHold = AllGive rows
 
+-- Row 6 by its numbers, and row 4: the ten lengths of a store, and six others.
+pub record Limits : Type 0 where
+  pub runs : (lines inputs : List ℕ) → length lines ≡ length inputs → length lines ≤ 65536 → allAtMost 7 lines ≡ true
+      → linesRefused lines inputs ≡ false
+  pub unequal : (lines inputs : List ℕ) → length lines ≢ length inputs → linesRefused lines inputs ≡ true
+  pub long : (lines inputs : List ℕ) → 65537 ≤ length lines → linesRefused lines inputs ≡ true
+  pub high : (lines inputs : List ℕ) → allAtMost 7 lines ≡ false → linesRefused lines inputs ≡ true
+  pub stores : map storeLengthOk (64 ∷ 128 ∷ 256 ∷ 512 ∷ 1024 ∷ 2048 ∷ 4096 ∷ 8192 ∷ 16384 ∷ 32768 ∷ []) ≡ replicate 10 true
+  pub others : map storeLengthOk (0 ∷ 32 ∷ 63 ∷ 65 ∷ 96 ∷ 65536 ∷ []) ≡ replicate 6 false
+
 pub record Claims : Type 0 where
   pub clock-table : ClockTable
   pub record-kept : RecordKept
   pub deaf : Deaf
   pub clocks-are-three : ClocksAreThree
+  pub held-waits : HeldWaits
   pub seen-changes-last : SeenChangesLast
   pub scenario-holds : ScenarioHolds
   pub refusals-hold : RefusalsHold
+  pub limits : Limits

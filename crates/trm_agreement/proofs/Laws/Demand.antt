@@ -33,6 +33,8 @@ use Rattle.trm_core.proofs.Laws.Dirty.{copy-is}
 use Rattle.trm_agreement.specs.Log.{logOf, codesOf}
 use Rattle.trm_agreement.specs.Calls.{Call, clockCall, runCall, feed, answer, recordSeen, recordCode, recordEngine, referenceSeen}
 use Rattle.trm_agreement.specs.Calls.{ownRows, referenceCode, referenceEngine}
+use Rattle.trm_core.specs.Claims.{Kept}
+use Rattle.trm_agreement.specs.Claims.{start}
 use Rattle.trm_agreement.proofs.Laws.Simulate.{Together, log-alike, codes-alike}
 use Rattle.trm_agreement.proofs.Laws.History.{judged-none}
 use Rattle.trm_agreement.proofs.Laws.Relation.{Extra, plainOf, Common, ready, Related, Agree}
@@ -55,7 +57,7 @@ clock-next G p q pins = chosen Next (stalled (pins .line)) refl
     off : (n : ℕ) → Next (takeOff G w q n (pins .input))
     off n = chosen Next (eqb n 1) {a = carryOut G w q (pins .input)} {b = spend G w q (n - 1)} refl refl
 
-length-pins : (ls is : List ℕ) → length ls ≡ length is → length (pinsOf ls is) ≡ length ls
+pub length-pins : (ls is : List ℕ) → length ls ≡ length is → length (pinsOf ls is) ≡ length ls
 unfolding pinsOf
 length-pins [] is e = refl
 length-pins (l ∷ ls) [] e = absurd (omega arith)
@@ -260,3 +262,17 @@ module _ (G : Geometry) (p s : List ℕ) where
   same-codes cs e r = codes-alike feed answer (recordEngine G p) (referenceEngine G p) (Tied G p) (tied-step G p) (tied-seen G p)
       (tied-code G p)
       (tied-room G p) (record { machine = resetOf G s; store = s }) (referenceReset s) cs (reset-tied e r)
+
+  pub reset-kept : geometryOk G ≡ true → resetRefusal s ≡ 0 → Kept G p (start G s)
+  unfolding resetOf storeOk zeros
+  reset-kept e r = record {
+    shaped = record {
+      regs = omega arith;
+      full = rw length-zeros (omega arith);
+      dirty = rw length-zeros (omega arith);
+      block = rw length-zeros (omega arith);
+      words = rw length-zeros (omega arith);
+    };
+    store = rw (reset-legal r) (eq-eqb (length s) (length s) refl);
+    record-ok = accepted G p (resetOf G s) s (reset-tied e r .extra) (omega arith) (reset-tied e r .related);
+  }

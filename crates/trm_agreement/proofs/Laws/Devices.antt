@@ -23,6 +23,7 @@ use Rattle.trm_reference.specs.Trace.{Pins, After, clocks, outsOf}
 use Rattle.trm_reference.specs.Reference.{Reference, charge, carryOut, spend, takeOff, referenceHeld, referenceInterrupt, referenceUnheld}
 use Rattle.trm_reference.specs.Reference.{referenceClock}
 use Rattle.trm_core.proofs.Laws.Deaf.{load-only, answer-done}
+use Rattle.trm_agreement.specs.Ledger.{waited, acknowledged as idle, worked, finished, isFinish, due, did}
 use Rattle.trm_agreement.specs.Devices.{finishes, accessesDevice, accessesOf, deviceAnswers}
 use Rattle.trm_agreement.specs.Claims.{Told, Moves, InOrder, DevicesHold, acknowledged, Quiet}
 
@@ -91,9 +92,29 @@ module _ (G : Geometry) (p : List ℕ) (q : Reference) (pins : Pins) where
       go true e = absurd (let h = finishes-done true e in omega arith)
       go false e = refl
 
+-- the ledger's last clocks are those that carry a word out
+did-finishes : (G : Geometry) (p : List ℕ) (q : Reference) (pins : Pins) → isFinish (did G p q pins) ≡ finishes G p q pins
+unfolding did due finishes isFinish
+did-finishes G p q pins = go (stalled (pins .line)) (eqb (q .left) 0) (eqb (interruptChosen (q .visible .status) (pins .line)) 0)
+    (eqb (charge G (wordAt p (q .visible .pc)) q) 1) (eqb (q .left) 1)
+  where
+    c : ℕ
+    c = charge G (wordAt p (q .visible .pc)) q
+
+    go : (s z n u l : Bool) → isFinish (cond s waited (cond z (cond n (cond u (finished c) worked) idle) (cond l (finished c) worked)))
+        ≡ not s && cond z (n && u) l
+    go true z n u l = refl
+    go false true true true l = refl
+    go false true true false l = refl
+    go false true false u l = refl
+    go false false n u true = refl
+    go false false n u false = refl
+
 told-each : (G : Geometry) (p : List ℕ) (q : Reference) (pins : Pins) → Told G p q pins
 unfolding a
 told-each G p q pins = record {
+  counts = finishes-done G p q pins (finishes G p q pins) refl;
+  booked = did-finishes G p q pins;
   done = λ d. clock-shows G p q pins .ends (is-finish G p q pins d);
   quiet = λ d. clock-shows G p q pins .else (no-finish G p q pins d);
 }

@@ -10,10 +10,10 @@ use borrow.Author.Tests.{eqb-true, eq-eqb, ne-eqb}
 use native.Mathlib.Omega.{arith}
 use Rattle.trm_word.specs.Fields.{bit}
 use Rattle.trm_reference.specs.Geometry.{Geometry}
-use Rattle.trm_reference.specs.Interrupt.{lineRaised, interruptChosen}
+use Rattle.trm_reference.specs.Interrupt.{stalled, lineRaised, interruptChosen}
 use Rattle.trm_reference.specs.Trace.{Pins}
 use Rattle.trm_reference.specs.Reference.{Reference, referenceUnheld, referenceClock}
-use Rattle.trm_agreement.specs.Claims.{Rule, Taken, InterruptsHold}
+use Rattle.trm_agreement.specs.Claims.{When, Rule, Taken, InterruptsHold}
 
 rule-in-bits : (status line : ℕ) → Rule status line
 unfolding interruptChosen lineRaised
@@ -50,5 +50,9 @@ taken-when G p q pins = record {
   goesOn = λ s z. rw (s, ne-eqb (q .left) 0 z);
 }
 
+when-taken : (q : Reference) (pins : Pins) → When q pins
+unfolding stalled
+when-taken q pins = rw (rule-in-bits (q .visible .status) (pins .line) .named)
+
 pub interrupts-hold : InterruptsHold
-interrupts-hold = record { rule = rule-in-bits; taken = taken-when }
+interrupts-hold = record { rule = rule-in-bits; iff = when-taken; taken = taken-when }

@@ -9,7 +9,7 @@ use mathlib.Core.List.{List, [], _∷_}
 use lib.Dec.{eqb}
 use borrow.Author.Tests.{eqb-true, eqb-false}
 use native.Mathlib.Omega.{arith}
-use Rattle.trm_reference.specs.Geometry.{Geometry, burst}
+use Rattle.trm_reference.specs.Geometry.{Geometry, burst, oneOf, geometryOk}
 use Rattle.trm_reference.specs.Visible.{wordAt}
 use Rattle.trm_reference.specs.Interrupt.{stalled, interruptChosen}
 use Rattle.trm_reference.specs.Trace.{Pins, clocks, endOf}
@@ -116,5 +116,5 @@ ledger-kept G p s is = clocks-booked G p (referenceReset s) is [] reset-booked
         (record { sum = refl; held = refl; between = λ _. refl; flying = λ n. absurd (n refl); took = tt })
 
 pub bounded : Bounded
-unfolding longest burst
-bounded = record { charges = charge-bounded; paper = refl }
+unfolding longest burst geometryOk oneOf
+bounded = record { fits = refl; positive = charge-pos; charges = charge-bounded; paper = refl }

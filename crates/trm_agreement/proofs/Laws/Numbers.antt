@@ -11,11 +11,12 @@ use lib.Dec.{eqb, ltb}
 use native.Mathlib.Omega.{arith}
 use Rattle.trm_laws.proofs.Tests.{chosen}
 use Rattle.trm_reference.specs.Geometry.{Geometry}
-use Rattle.trm_reference.specs.Trace.{Pins, After, clocks, endOf}
+use Rattle.trm_reference.specs.Access.{Answer}
+use Rattle.trm_reference.specs.Trace.{Pins, After, clocks, endOf, outsOf}
 use Rattle.trm_reference.specs.Reference.{Reference, referenceClock, referenceReset}
 use Rattle.trm_core.specs.Refusals.{programOk, countRow, clockRows, linesRefused, runRows}
-use Rattle.trm_agreement.specs.Log.{clocksOf, codesOf, fedOf, stateOf}
-use Rattle.trm_agreement.specs.Calls.{Call, clockCall, runCall, feed, answer, ownRows, referenceCode, referenceEngine}
+use Rattle.trm_agreement.specs.Log.{Entry, clocksOf, entries, calls, logOf, codesOf, answersIn, fedOf, stateOf}
+use Rattle.trm_agreement.specs.Calls.{Call, clockCall, runCall, feed, answer, Ended, Seen, ownRows, referenceCode, referenceEngine}
 use Rattle.trm_agreement.specs.Claims.{All, NeverFive, CallsAreClocks}
 use Rattle.trm_agreement.proofs.Laws.Demand.{same-codes}
 
@@ -53,11 +54,13 @@ unfolding clocks endOf
 clocks-append step x [] js = refl
 clocks-append step x (i ∷ is) js = clocks-append step (step x i .state) is js
 
-pub calls-are-clocks : CallsAreClocks
+calls-state : (G : Geometry) (p : List ℕ) (q : Reference) (cs : List Call)
+    → stateOf feed answer (referenceEngine G p) q cs
+    ≡ endOf q (clocks (referenceClock G p) q (fedOf feed answer (referenceEngine G p) q cs))
 unfolding stateOf fedOf clocks endOf clocksOf referenceEngine
-calls-are-clocks G p q [] = refl
-calls-are-clocks G p q (c ∷ cs) =
-    calls-are-clocks G p (after (eqb (referenceCode G p q c) 0)) cs
+calls-state G p q [] = refl
+calls-state G p q (c ∷ cs) =
+    calls-state G p (after (eqb (referenceCode G p q c) 0)) cs
     ∙ ap (λ y. endOf y (clocks (referenceClock G p) y rest)) (sym (here (eqb (referenceCode G p q c) 0)))
     ∙ sym (clocks-append (referenceClock G p) q (cond (eqb (referenceCode G p q c) 0) (feed c) []) rest)
   where
@@ -70,3 +73,39 @@ calls-are-clocks G p q (c ∷ cs) =
     here : (t : Bool) → endOf q (clocks (referenceClock G p) q (cond t (feed c) [])) ≡ after t
     here true = refl
     here false = refl
+
+outs-append : {S I O : Type 0} (step : S → I → After S O) (x : S) (is js : List I)
+    → outsOf (clocks step x is) ++ outsOf (clocks step (endOf x (clocks step x is)) js) ≡ outsOf (clocks step x (is ++ js))
+unfolding clocks endOf outsOf
+outs-append step x [] js = refl
+outs-append step x (i ∷ is) js = ap (λ os. step x i .out ∷ os) (outs-append step (step x i .state) is js)
+
+-- the answers of a call's entries, and then of the rest
+answers-entries : (G : Geometry) (p : List ℕ) (ts : List (After Reference Answer)) (es : List (Entry Answer Seen Ended))
+    → answersIn (entries feed answer (referenceEngine G p) ts ++ es) ≡ outsOf ts ++ answersIn es
+unfolding entries answersIn outsOf
+answers-entries G p [] es = refl
+answers-entries G p (t ∷ ts) es = ap (λ os. t .out ∷ os) (answers-entries G p ts es)
+
+calls-answers : (G : Geometry) (p : List ℕ) (q : Reference) (cs : List Call)
+    → answersIn (calls feed answer (referenceEngine G p) q cs)
+    ≡ outsOf (clocks (referenceClock G p) q (fedOf feed answer (referenceEngine G p) q cs))
+unfolding calls fedOf clocks endOf outsOf clocksOf referenceEngine answersIn
+calls-answers G p q [] = refl
+calls-answers G p q (c ∷ cs) =
+    answers-entries G p (of (eqb (referenceCode G p q c) 0)) _
+    ∙ ap (λ os. outsOf (of (eqb (referenceCode G p q c) 0)) ++ os) (calls-answers G p (endOf q (of (eqb (referenceCode G p q c) 0))) cs)
+    ∙ here (eqb (referenceCode G p q c) 0) (fedOf feed answer (referenceEngine G p) (endOf q (of (eqb (referenceCode G p q c) 0))) cs)
+  where
+    of : Bool → List (After Reference Answer)
+    of t = cond t (clocks (referenceClock G p) q (feed c)) []
+
+    here : (t : Bool) (rest : List Pins)
+        → outsOf (of t) ++ outsOf (clocks (referenceClock G p) (endOf q (of t)) rest)
+        ≡ outsOf (clocks (referenceClock G p) q (cond t (feed c) [] ++ rest))
+    here true rest = outs-append (referenceClock G p) q (feed c) rest
+    here false rest = refl
+
+pub calls-are-clocks : (G : Geometry) (p : List ℕ) (q : Reference) (cs : List Call) → CallsAreClocks G p q cs
+unfolding logOf answersIn
+calls-are-clocks G p q cs = record { state = calls-state G p q cs; answers = calls-answers G p q cs }

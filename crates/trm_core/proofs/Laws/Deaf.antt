@@ -26,7 +26,7 @@ use Rattle.trm_core.specs.Cache.{Cache, lineAt, view, firstDirty}
 use Rattle.trm_core.specs.Record.{Lent, gathered, visibleOf, cacheOf}
 use Rattle.trm_core.specs.Clock.{Moved, moved, hits, missing, firstClock, written, writing, filling, writeLine, carried, isLast}
 use Rattle.trm_core.specs.Clock.{finish, cacheAfter, storeAfter, advance, quiet, worked, unheld, heldClock, clockOf}
-use Rattle.trm_core.specs.Claims.{acknowledges, Deaf, ClocksAreThree, SeenChangesLast}
+use Rattle.trm_core.specs.Claims.{acknowledges, Deaf, ClocksAreThree, HeldWaits, SeenChangesLast}
 
 -- only LD asks what is loaded
 execute-blind : (w : ℕ) (v : Visible) (x y : ℕ) → isLoad w ≡ false → execute w v x ≡ execute w v y
@@ -96,6 +96,23 @@ deaf G p x line i j = go (stalled line)
 pub clocks-are-three : ClocksAreThree
 unfolding clockOf unheld acknowledges
 clocks-are-three G p x pins = record { held = λ s. rw s; takes = λ s t. rw (s, t); works = λ s t. rw (s, t) }
+
+pub held-waits : HeldWaits
+unfolding heldClock
+held-waits G p x pins st =
+    rw (clocks-are-three G p x pins .held st)
+    (record {
+      visible = refl;
+      running = refl;
+      cache = refl;
+      store = refl;
+      size = refl;
+      clocks = refl;
+      held = refl;
+      refills = refl;
+      writebacks = refl;
+      answer = refl;
+    })
 
 -- an answer is 1 where a word was carried out
 pub answer-done : (w : ℕ) (v : Visible) (n i : ℕ) → answerOf w v n i .done ≡ 1

@@ -206,6 +206,7 @@ pub clock-table : ClockTable
 unfolding toCome
 clock-table G p x pins g sh free st ac = record {
   carries = ap (λ y. y .out .done) works ∙ worked-done G w n m s (pins .input) ∙ ap flag last;
+  silence = λ more. ap (λ y. y .out) (works ∙ worked-on G w n m s (pins .input) (last ∙ ne-eqb left 1 more));
   lowers = λ more. let o = on more in
       ap (λ y. toCome G p (y .state) + 1)
       (works ∙ worked-on G w n m s (pins .input) (last ∙ ne-eqb left 1 more) ∙ ap (quiet (m .regs)) (o .is))

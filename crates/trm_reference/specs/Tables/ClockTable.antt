@@ -3,8 +3,8 @@
 -- Assumes nothing.
 use Prim.Native.Nat.{ℕ}
 use mathlib.Core.List.{List, [], _∷_}
-use Rattle.trm_reference.specs.Geometry.{paperGeometry}
-use Rattle.trm_reference.specs.History.{emptying}
+use Rattle.trm_reference.specs.Geometry.{Geometry, paperGeometry}
+use Rattle.trm_reference.specs.History.{Event, emptying}
 use Rattle.trm_reference.specs.Reference.{Reference, charge}
 use Rattle.trm_reference.specs.Tables.{Row, row, literalWord, registerWord, statusWord, jumpWord, loadWord, storeWord, branchWord}
 use Rattle.trm_reference.specs.Tables.{callWord, holding, seen, machine, loadOf, storeOf, cacheOff, cacheWith}
@@ -12,6 +12,15 @@ use Rattle.trm_reference.specs.Tables.{callWord, holding, seen, machine,
 -- the charge of a word in a state, and the clocks that the table gives
 abbrev pub charged : Reference → ℕ → ℕ → Row
 charged q w clocks = row (charge paperGeometry w q ∷ []) (clocks ∷ [])
+
+-- a store to each of the sixteen lines
+abbrev pub allStored : List Event
+allStored =
+    storeOf 15 ∷ storeOf 14 ∷ storeOf 13 ∷ storeOf 12 ∷ storeOf 11 ∷ storeOf 10 ∷ storeOf 9 ∷ storeOf 8
+    ∷ storeOf 7 ∷ storeOf 6 ∷ storeOf 5 ∷ storeOf 4 ∷ storeOf 3 ∷ storeOf 2 ∷ storeOf 1 ∷ storeOf 0 ∷ []
+
+abbrev pub smallGeometry : Geometry
+smallGeometry = record { lines = 4; words = 4; waits = 1 }
 
 unfoldable pub clockTable : List Row
 clockTable =
@@ -78,6 +87,12 @@ clockTable =
     ∷ charged (cacheWith (storeOf 0 ∷ storeOf 0 ∷ [])) (statusWord 0) 11
     ∷ charged (cacheWith (storeOf 1 ∷ storeOf 0 ∷ [])) (statusWord 0) 21
     ∷ charged (cacheWith (storeOf 1 ∷ storeOf 0 ∷ [])) (statusWord 7) 21
+    -- every line dirty, the longest of all: 161
+    ∷ charged (cacheWith allStored) (statusWord 0) 161
+    -- another geometry, 4 lines of 4 words with 1 wait: bursts of 5; blocks 0 and 4 are of line 0
+    ∷ row (charge smallGeometry (loadWord 3 7 0) (cacheWith []) ∷ []) (7 ∷ [])
+    ∷ row (charge smallGeometry (loadWord 3 7 16) (cacheWith (storeOf 0 ∷ [])) ∷ []) (12 ∷ [])
+    ∷ row (charge smallGeometry (statusWord 0) (cacheWith (storeOf 5 ∷ storeOf 0 ∷ [])) ∷ []) (11 ∷ [])
     -- 1 with the cache already off, and 1 with bit 3 set
     ∷ charged (machine (holding 0 0 0) 256 (emptying ∷ storeOf 1 ∷ storeOf 0 ∷ [])) (statusWord 0) 1
     ∷ charged (cacheWith (storeOf 1 ∷ storeOf 0 ∷ [])) (statusWord 8) 1

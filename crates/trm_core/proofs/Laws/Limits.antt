@@ -1,0 +1,33 @@
+-- Row 6 and row 4 by their numbers.
+-- Idea: each test decides its clause; the lengths of a store are computed.
+-- Assumes nothing.
+use mathlib.Core.Path.{_≡_, refl}
+use mathlib.Core.Bool.{Bool, true, false, not, _||_}
+use lib.ListN.{length}
+use lib.Dec.{eqb, ltb}
+use borrow.Author.Tests.{eq-eqb, ne-eqb, lt-ltb, le-ltb}
+use native.Mathlib.Omega.{arith}
+use Rattle.trm_word.specs.Address.{storeLengthOk}
+use Rattle.trm_core.specs.Refusals.{allAtMost, linesRefused}
+use Rattle.trm_core.specs.Claims.{Limits}
+
+second : (a b : Bool) → a || true || b ≡ true
+second true b = refl
+second false b = refl
+
+third : (a b : Bool) → a || b || true ≡ true
+third true b = refl
+third false true = refl
+third false false = refl
+
+pub limits : Limits
+unfolding linesRefused storeLengthOk
+limits =
+    record {
+      runs = λ ls is e h a. rw (eq-eqb (length ls) (length is) e, le-ltb 65536 (length ls) h, a);
+      unequal = λ ls is n. rw (ne-eqb (length ls) (length is) n);
+      long = λ ls is h. rw (lt-ltb 65536 (length ls) (omega arith)) (second (not (eqb (length ls) (length is))) (not (allAtMost 7 ls)));
+      high = λ ls is a. rw a (third (not (eqb (length ls) (length is))) (ltb 65536 (length ls)));
+      stores = refl;
+      others = refl;
+    }
