@@ -1,6 +1,8 @@
 -- The claims of demand 3, all proved: the value of the record of `specs/Claims.antt`.
 -- Idea: each field is a law of Laws/.
 -- Assumes nothing.
+use Rattle.trm_reference.proofs.Theorems.{theorems as reference-theorems}
+use Rattle.trm_core.proofs.Theorems.{theorems as core-theorems}
 use Rattle.trm_agreement.specs.Claims.{Claims}
 use Rattle.trm_agreement.proofs.Laws.Demand.{same-log, reset-kept}
 use Rattle.trm_agreement.proofs.Laws.Numbers.{never-five, calls-are-clocks}

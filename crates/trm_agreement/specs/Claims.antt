@@ -19,6 +19,7 @@ use Rattle.trm_reference.specs.Trace.{Pins, clocks, endOf, outsOf}
 use Rattle.trm_reference.specs.Reference.{Reference, charge, takeOff, referenceHeld, referenceInterrupt, referenceClock, referenceReset}
 use Rattle.trm_core.specs.Record.{Lent, resetOf}
 use Rattle.trm_core.specs.Refusals.{resetRefusal, runRefusal}
+use Rattle.trm_reference.specs.Claims.{Claims as ReferenceClaims}
 use Rattle.trm_core.specs.Run.{runOf}
 use Rattle.trm_core.specs.Claims.{Kept, Claims as CoreClaims}
 use Rattle.trm_agreement.specs.Log.{clocksOf, logOf, codesOf, answersIn, fedOf, stateOf}
