@@ -42,7 +42,7 @@ answer code (runCall lines inputs bytes words) outs =
     (runEnds 0 (length lines) (finishedIn outs) (bytesOf outs) (wordsOf outs))
     (runEnds code 0 0 bytes words)
 
--- "all that a programmer sees, memory as a copy gives it, all counts"
+-- demand 3: all that a programmer sees, memory as a copy gives it, all counts
 pub record Seen : Type 0 where
   pub visible : Visible
   pub memory : List ℕ

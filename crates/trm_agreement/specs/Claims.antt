@@ -1,5 +1,5 @@
 -- DEMAND 3 and the claims around it: one statement to a field of `Claims`, each under its sentence.
--- Paper: "For any program, any first memory and any list of clock calls and runs from a reset ..", "Demand 3 is one statement on the
+-- Demand 3, "for any program, any first memory and any list of clock calls and runs from a reset"; paper: "one statement on the
 -- whole list". For every geometry of `geometryOk`, the paper's among them; the value is in proofs/Theorems.antt. Assumes nothing.
 use Prim.Native.Nat.{ℕ, _+_, _*_, _≤_}
 use mathlib.Core.Path.{_≡_}

@@ -136,7 +136,8 @@ SeenChangesLast =
     → clockOf G p x pins .out .done ≡ 0 → not (stalled (pins .line)) && acknowledges (x .machine) pins ≡ false
     → Unseen G p x pins
 
--- The scenario: both machines, clock by clock, come to the numbers of a second reading of the paper.
+-- The scenario: digests over every clock of both machines, the clocks at which words finish and the phases are those of a second
+-- reading of the paper.
 abbrev pub ScenarioHolds : Type 0
 ScenarioHolds =
     (recordDigest ≡ expectedRecordDigest)

@@ -1,4 +1,4 @@
--- The refusals, computed: a row for every call and every number that it can give, and for each clause of row 5.
+-- The refusals, computed: a row for every call and every number that it can give, and sixty for the clauses of row 5.
 -- Paper: "Where calls are turned down". The expected numbers are those of a second reading of the paper, tests/machine/refused.py.
 -- Assumes nothing.
 --   rows      what a call gives, and what is expected of it        AllGive rs   every row gives what is expected

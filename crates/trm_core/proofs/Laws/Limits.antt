@@ -1,6 +1,7 @@
 -- Row 6 and row 4 by their numbers.
 -- Idea: each test decides its clause; the lengths of a store are computed.
 -- Assumes nothing.
+use Prim.Native.Nat.{ℕ, _≤_}
 use mathlib.Core.Path.{_≡_, refl}
 use mathlib.Core.Bool.{Bool, true, false, not, _||_}
 use lib.ListN.{length}
@@ -20,11 +21,15 @@ third true b = refl
 third false true = refl
 third false false = refl
 
+-- a run that is not long, of equal lengths and with no byte above 7
+short : (n : ℕ) → n ≤ 65536 → not true || ltb 65536 n || not true ≡ false
+short n h = rw (le-ltb 65536 n h)
+
 pub limits : Limits
 unfolding linesRefused storeLengthOk
 limits =
     record {
-      runs = λ ls is e h a. rw (eq-eqb (length ls) (length is) e, le-ltb 65536 (length ls) h, a);
+      runs = λ ls is e h a. rw (eq-eqb (length ls) (length is) e, a) (short (length ls) h);
       unequal = λ ls is n. rw (ne-eqb (length ls) (length is) n);
       long = λ ls is h. rw (lt-ltb 65536 (length ls) (omega arith)) (second (not (eqb (length ls) (length is))) (not (allAtMost 7 ls)));
       high = λ ls is a. rw a (third (not (eqb (length ls) (length is))) (ltb 65536 (length ls)));
