@@ -35,6 +35,10 @@ pub data Ended : Type 0 where
   clockEnds : (code : ℕ) → Ended
   runEnds : (code used finished : ℕ) (bytes words : List ℕ) → Ended
 
+unfoldable pub numberOf : Ended → ℕ
+numberOf (clockEnds code) = code
+numberOf (runEnds code used finished bytes words) = code
+
 unfoldable pub answer : ℕ → Call → List Answer → Ended
 answer code (clockCall line input) outs = clockEnds code
 answer code (runCall lines inputs bytes words) outs =

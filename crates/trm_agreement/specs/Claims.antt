@@ -22,8 +22,8 @@ use Rattle.trm_core.specs.Refusals.{resetRefusal, runRefusal}
 use Rattle.trm_reference.specs.Claims.{Claims as ReferenceClaims}
 use Rattle.trm_core.specs.Run.{runOf}
 use Rattle.trm_core.specs.Claims.{Kept, Claims as CoreClaims}
-use Rattle.trm_agreement.specs.Log.{clocksOf, logOf, codesOf, answersIn, fedOf, stateOf}
-use Rattle.trm_agreement.specs.Calls.{Call, runCall, feed, answer, runEnds, recordEngine, referenceEngine}
+use Rattle.trm_agreement.specs.Log.{clocksOf, logOf, returnsIn, answersIn, fedOf, stateOf}
+use Rattle.trm_agreement.specs.Calls.{Call, runCall, feed, numberOf, answer, runEnds, recordEngine, referenceEngine}
 use Rattle.trm_agreement.specs.Ledger.{Did, heldIn, chargesIn, spentIn, isFinish, Took, due, did, ledgerFrom, longest}
 use Rattle.trm_agreement.specs.Devices.{finishes, accessesOf, deviceAnswers}
 
@@ -50,7 +50,7 @@ All Q (x ∷ xs) = Q x × All Q xs
 abbrev pub NeverFive : Type 0
 NeverFive =
     (G : Geometry) (p s : List ℕ) (cs : List Call) → geometryOk G ≡ true → resetRefusal s ≡ 0
-    → All (λ code. code ≢ 5) (codesOf feed answer (recordEngine G p) (start G s) cs)
+    → All (λ a. numberOf a ≢ 5) (returnsIn (logOf feed answer (recordEngine G p) (start G s) cs))
 
 -- A list of calls is a list of clocks, those of the calls that were not refused: its last state, and the answers of its log.
 pub record CallsAreClocks (G : Geometry) (p : List ℕ) (q : Reference) (cs : List Call) : Type 0 where

@@ -2,7 +2,7 @@
 -- Paper: "Demand 3 is one statement on the whole list, not one on each call". Any machine, inputs, answers and calls.
 -- Assumes nothing.
 --   Engine                      a machine: one clock, what is seen of a state, the number by which a call is turned down
---   logOf feed answer E x cs    the log        codesOf   the numbers alone
+--   logOf feed answer E x cs    the log        returnsIn   what its calls returned
 --   answersIn                   the answers of a log's clocks
 --   fedOf, stateOf              the inputs of the calls that were not turned down; the state after all calls
 use Prim.Native.Nat.{ℕ}
@@ -41,11 +41,6 @@ module _ {S I O W C A : Type 0} (feed : C → List I) (answer : ℕ → C → Li
   unfoldable pub logOf : S → List C → List (Entry O W A)
   logOf x cs = started (E .seen x) ∷ calls x cs
 
-  -- the numbers of the calls, in their order
-  unfoldable pub codesOf : S → List C → List ℕ
-  codesOf x [] = []
-  codesOf x (c ∷ cs) = E .code x c ∷ codesOf (endOf x (clocksOf x c)) cs
-
   -- the inputs that the machine was fed: those of the calls not turned down
   unfoldable pub fedOf : S → List C → List I
   fedOf x [] = []
@@ -55,9 +50,15 @@ module _ {S I O W C A : Type 0} (feed : C → List I) (answer : ℕ → C → Li
   stateOf x [] = x
   stateOf x (c ∷ cs) = stateOf (endOf x (clocksOf x c)) cs
 
--- the answers of the clocks in a log, and what its calls returned
+-- the answers of the clocks in a log; what its calls returned
 unfoldable pub answersIn : {O W A : Type 0} → List (Entry O W A) → List O
 answersIn [] = []
 answersIn (started w ∷ es) = answersIn es
 answersIn (clocked w o ∷ es) = o ∷ answersIn es
 answersIn (ended a ∷ es) = answersIn es
+
+unfoldable pub returnsIn : {O W A : Type 0} → List (Entry O W A) → List A
+returnsIn [] = []
+returnsIn (started w ∷ es) = returnsIn es
+returnsIn (clocked w o ∷ es) = returnsIn es
+returnsIn (ended a ∷ es) = a ∷ returnsIn es

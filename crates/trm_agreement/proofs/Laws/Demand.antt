@@ -30,12 +30,12 @@ use Rattle.trm_core.specs.Rule.{recordOk}
 use Rattle.trm_core.proofs.Laws.Fit.{Fit, fit, any-line-in}
 use Rattle.trm_core.proofs.Laws.Cache.{Sane, empty-view}
 use Rattle.trm_core.proofs.Laws.Dirty.{copy-is}
-use Rattle.trm_agreement.specs.Log.{logOf, codesOf}
+use Rattle.trm_agreement.specs.Log.{logOf}
 use Rattle.trm_agreement.specs.Calls.{Call, clockCall, runCall, feed, answer, recordSeen, recordCode, recordEngine, referenceSeen}
 use Rattle.trm_agreement.specs.Calls.{ownRows, referenceCode, referenceEngine}
 use Rattle.trm_core.specs.Claims.{Kept}
 use Rattle.trm_agreement.specs.Claims.{start}
-use Rattle.trm_agreement.proofs.Laws.Simulate.{Together, log-alike, codes-alike}
+use Rattle.trm_agreement.proofs.Laws.Simulate.{Together, log-alike}
 use Rattle.trm_agreement.proofs.Laws.History.{judged-none}
 use Rattle.trm_agreement.proofs.Laws.Relation.{Extra, plainOf, Common, ready, Related, Agree}
 use Rattle.trm_agreement.proofs.Laws.Clock.{clock-step}
@@ -252,14 +252,6 @@ module _ (G : Geometry) (p s : List ℕ) where
       ≡ logOf feed answer (referenceEngine G p) (referenceReset s) cs
   unfolding recordEngine referenceEngine
   same-log cs e r = log-alike feed answer (recordEngine G p) (referenceEngine G p) (Tied G p) (tied-step G p) (tied-seen G p)
-      (tied-code G p)
-      (tied-room G p) (record { machine = resetOf G s; store = s }) (referenceReset s) cs (reset-tied e r)
-
-  pub same-codes : (cs : List Call) → geometryOk G ≡ true → resetRefusal s ≡ 0
-      → codesOf feed answer (recordEngine G p) (record { machine = resetOf G s; store = s }) cs
-      ≡ codesOf feed answer (referenceEngine G p) (referenceReset s) cs
-  unfolding recordEngine referenceEngine
-  same-codes cs e r = codes-alike feed answer (recordEngine G p) (referenceEngine G p) (Tied G p) (tied-step G p) (tied-seen G p)
       (tied-code G p)
       (tied-room G p) (record { machine = resetOf G s; store = s }) (referenceReset s) cs (reset-tied e r)
 

@@ -8,17 +8,19 @@ use mathlib.Core.Bool.{Bool, true, false, cond, not, _||_}
 use mathlib.Core.List.{List, [], _∷_, _++_}
 use lib.ListN.{length}
 use lib.Dec.{eqb, ltb}
+use borrow.Author.Tests.{eqb-true}
 use native.Mathlib.Omega.{arith}
 use Rattle.trm_laws.proofs.Tests.{chosen}
 use Rattle.trm_reference.specs.Geometry.{Geometry}
 use Rattle.trm_reference.specs.Access.{Answer}
-use Rattle.trm_reference.specs.Trace.{Pins, After, clocks, endOf, outsOf}
+use Rattle.trm_reference.specs.Trace.{Pins, After, clocks, endOf, outsOf, finishedIn}
 use Rattle.trm_reference.specs.Reference.{Reference, referenceClock, referenceReset}
 use Rattle.trm_core.specs.Refusals.{programOk, countRow, clockRows, linesRefused, runRows}
-use Rattle.trm_agreement.specs.Log.{Entry, clocksOf, entries, calls, logOf, codesOf, answersIn, fedOf, stateOf}
-use Rattle.trm_agreement.specs.Calls.{Call, clockCall, runCall, feed, answer, Ended, Seen, ownRows, referenceCode, referenceEngine}
+use Rattle.trm_core.specs.Run.{bytesOf, wordsOf}
+use Rattle.trm_agreement.specs.Log.{Entry, clocksOf, entries, calls, logOf, answersIn, returnsIn, fedOf, stateOf}
+use Rattle.trm_agreement.specs.Calls.{Call, clockCall, runCall, feed, answer, numberOf, runEnds, Ended, Seen, ownRows, referenceCode, referenceEngine}
 use Rattle.trm_agreement.specs.Claims.{All, NeverFive, CallsAreClocks}
-use Rattle.trm_agreement.proofs.Laws.Demand.{same-codes}
+use Rattle.trm_agreement.proofs.Laws.Demand.{same-log}
 
 -- the reference machine gives 0, 3, 6, 7 and 8 alone
 abbrev NotFive : ℕ → Type 0
@@ -35,17 +37,42 @@ own-rows G p k (runCall lines inputs bytes words) = chosen NotFive (linesRefused
     (chosen NotFive (not (eqb (length bytes) (length lines)) || not (eqb (length words) (length lines)))
     (λ z. absurd (omega arith)) (count-row k (length lines)))
 
-codes-not-five : (G : Geometry) (p : List ℕ) (q : Reference) (cs : List Call)
-    → All (λ code. code ≢ 5) (codesOf feed answer (referenceEngine G p) q cs)
-unfolding codesOf All referenceEngine referenceCode
-codes-not-five G p q [] = tt
-codes-not-five G p q (c ∷ cs) = (
-  chosen NotFive (not (programOk p)) (λ z. absurd (omega arith)) (own-rows G p (q .clocks) c),
-  codes-not-five G p (endOf q (clocksOf feed answer (referenceEngine G p) q c)) cs,
-)
+-- the number that a call returns is the one it was turned down with
+number-is : (code : ℕ) (c : Call) (outs : List Answer) → numberOf (answer code c outs) ≡ code
+unfolding numberOf answer
+number-is code (clockCall line input) outs = refl
+number-is code (runCall lines inputs bytes words) outs = go (eqb code 0) refl
+  where
+    go : (t : Bool) → eqb code 0 ≡ t
+        → numberOf (cond t (runEnds 0 (length lines) (finishedIn outs) (bytesOf outs) (wordsOf outs)) (runEnds code 0 0 bytes words)) ≡ code
+    go true e = sym (eqb-true code 0 e)
+    go false e = refl
+
+-- clocks return nothing
+returns-entries : (G : Geometry) (p : List ℕ) (ts : List (After Reference Answer)) (es : List (Entry Answer Seen Ended))
+    → returnsIn (entries feed answer (referenceEngine G p) ts ++ es) ≡ returnsIn es
+unfolding entries returnsIn
+returns-entries G p [] es = refl
+returns-entries G p (t ∷ ts) es = returns-entries G p ts es
+
+returns-not-five : (G : Geometry) (p : List ℕ) (q : Reference) (cs : List Call)
+    → All (λ a. numberOf a ≢ 5) (returnsIn (calls feed answer (referenceEngine G p) q cs))
+unfolding calls All returnsIn referenceEngine referenceCode
+returns-not-five G p q [] = tt
+returns-not-five G p q (c ∷ cs) =
+    rw (returns-entries G p (clocksOf feed answer (referenceEngine G p) q c))
+    (here, returns-not-five G p (endOf q (clocksOf feed answer (referenceEngine G p) q c)) cs)
+  where
+    code : ℕ
+    code = referenceEngine G p .code q c
+
+    here : numberOf (answer code c (outsOf (clocksOf feed answer (referenceEngine G p) q c))) ≢ 5
+    here = rw (number-is code c (outsOf (clocksOf feed answer (referenceEngine G p) q c)))
+        (chosen NotFive (not (programOk p)) (λ z. absurd (omega arith)) (own-rows G p (q .clocks) c))
 
 pub never-five : NeverFive
-never-five G p s cs e r = rw (same-codes G p s cs e r) (codes-not-five G p (referenceReset s) cs)
+unfolding logOf returnsIn
+never-five G p s cs e r = rw (same-log G p s cs e r) (returns-not-five G p (referenceReset s) cs)
 
 -- the clocks of two lists of inputs, one after the other
 clocks-append : {S I O : Type 0} (step : S → I → After S O) (x : S) (is js : List I)

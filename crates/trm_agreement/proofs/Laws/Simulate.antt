@@ -9,7 +9,7 @@ use lib.ListN.{length}
 use lib.Dec.{eqb}
 use borrow.Author.Tests.{eqb-true}
 use Rattle.trm_reference.specs.Trace.{After, clocks, endOf, outsOf}
-use Rattle.trm_agreement.specs.Log.{Engine, started, clocksOf, entries, calls, logOf, codesOf}
+use Rattle.trm_agreement.specs.Log.{Engine, started, clocksOf, entries, calls, logOf}
 
 -- two clocks that agree
 pub record Together {S S′ O : Type 0} (R : S → S′ → Type 0) (t : After S O) (u : After S′ O) : Type 0 where
@@ -66,9 +66,3 @@ module _ {S S′ I O W C A : Type 0} (feed : C → List I) (answer : ℕ → C �
   pub log-alike : (x : S) (y : S′) (cs : List C) → R 0 x y → logOf feed answer E x cs ≡ logOf feed answer E′ y cs
   unfolding logOf
   log-alike x y cs r = ap₂ _∷_ (ap started (seen 0 x y r)) (calls-alike x y cs r)
-
-  pub codes-alike : (x : S) (y : S′) (cs : List C) → R 0 x y → codesOf feed answer E x cs ≡ codesOf feed answer E′ y cs
-  unfolding codesOf
-  codes-alike x y [] r = refl
-  codes-alike x y (c ∷ cs) r = ap₂ _∷_ (code x y c r)
-      (codes-alike (endOf x (clocksOf feed answer E x c)) (endOf y (clocksOf feed answer E′ y c)) cs (call-alike x y c r .state))
