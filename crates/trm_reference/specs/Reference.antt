@@ -113,7 +113,7 @@ module _ (G : Geometry) (w : ℕ) (q : Reference) where
 
   -- "Then one is taken off. At 0 the word is carried out": left is not 0, so the difference does not truncate
   unfoldable pub takeOff : ℕ → ℕ → After Reference Answer
-  takeOff left i = cond (eqb left 1) (carryOut i) (spend (left - 1))
+  takeOff left i = cond (eqb (left - 1) 0) (carryOut i) (spend (left - 1))
 
 -- "a held one adds a held clock and no more"
 unfoldable pub referenceHeld : Reference → After Reference Answer

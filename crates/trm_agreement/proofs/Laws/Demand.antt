@@ -55,7 +55,7 @@ clock-next G p q pins = chosen Next (stalled (pins .line)) refl
     Next u = u .state .clocks ≡ q .clocks + 1
 
     off : (n : ℕ) → Next (takeOff G w q n (pins .input))
-    off n = chosen Next (eqb n 1) {a = carryOut G w q (pins .input)} {b = spend G w q (n - 1)} refl refl
+    off n = chosen Next (eqb (n - 1) 0) {a = carryOut G w q (pins .input)} {b = spend G w q (n - 1)} refl refl
 
 pub length-pins : (ls is : List ℕ) → length ls ≡ length is → length (pinsOf ls is) ≡ length ls
 unfolding pinsOf

@@ -1,17 +1,19 @@
 -- Devices and quiet clocks: an answer is told by the clock that carries its word out and by no other, in the order of the words.
--- Idea: `Shows` says of a clock what it tells and leaves, by whether it finishes a word or takes an interrupt; the tests are split once.
+-- Idea: `Shows` says of a clock what it tells and leaves, by whether it finishes a word or takes an interrupt; the tests are split
+-- once.
 -- Assumes nothing.
 use Prim.Native.Nat.{ℕ, _+_, _-_, _*_, _/_, _^_, _≤_, _<_}
 use mathlib.Core.Path.{_≡_, refl, sym}
+use mathlib.Core.Logic.{_≢_}
 use mathlib.Core.Bool.{Bool, true, false, cond, not, _&&_}
 use mathlib.Core.List.{List, [], _∷_}
 use lib.ListN.{length}
 use lib.Seq.{getD-set-same}
 use lib.Dec.{eqb}
-use borrow.Author.Tests.{eqb-true, ne-eqb}
+use borrow.Author.Tests.{eqb-false, eqb-true, ne-eqb}
 use native.Mathlib.Omega.{arith}
 use native.Mathlib.Nat.{mod-lt}
-use Rattle.trm_laws.proofs.Tests.{bool-clash, clash}
+use Rattle.trm_laws.proofs.Tests.{same-test, bool-clash, clash}
 use Rattle.trm_word.specs.Fields.{operation, destination, bit}
 use Rattle.trm_reference.specs.Geometry.{Geometry}
 use Rattle.trm_reference.specs.Visible.{Visible, registerIndex, register, withRegister, wordAt}
@@ -23,6 +25,7 @@ use Rattle.trm_reference.specs.Trace.{Pins, After, clocks, outsOf}
 use Rattle.trm_reference.specs.Reference.{Reference, charge, carryOut, spend, takeOff, referenceHeld, referenceInterrupt, referenceUnheld}
 use Rattle.trm_reference.specs.Reference.{referenceClock}
 use Rattle.trm_core.proofs.Laws.Deaf.{load-only, answer-done}
+use Rattle.trm_agreement.proofs.Laws.Bounds.{charge-pos}
 use Rattle.trm_agreement.specs.Ledger.{waited, acknowledged as idle, worked, finished, isFinish, due, did}
 use Rattle.trm_agreement.specs.Devices.{finishes, accessesDevice, accessesOf, deviceAnswers}
 use Rattle.trm_agreement.specs.Claims.{Told, Moves, InOrder, DevicesHold, acknowledged, Quiet}
@@ -41,9 +44,9 @@ module _ (G : Geometry) (p : List ℕ) (q : Reference) (pins : Pins) where
   a : Answer
   a = answerOf (wordAt p (q .visible .pc)) (q .visible) (length (q .memory)) (pins .input)
 
-  off-shows : (n : ℕ) → Shows q a (eqb n 1) false (takeOff G w q n (pins .input))
+  off-shows : (n : ℕ) → n ≢ 0 → Shows q a (eqb n 1) false (takeOff G w q n (pins .input))
   unfolding takeOff carryOut spend a w
-  off-shows n = go (eqb n 1)
+  off-shows n z = rw (same-test (n - 1) 0 n 1 (λ y. omega arith) (λ y. omega arith)) (go (eqb n 1))
     where
       go : (t : Bool) → Shows q a t false (cond t (carryOut G w q (pins .input)) (spend G w q (n - 1)))
       go true = record {
@@ -56,20 +59,21 @@ module _ (G : Geometry) (p : List ℕ) (q : Reference) (pins : Pins) where
 
   clock-shows : Shows q a (finishes G p q pins) (acknowledged q pins) (referenceClock G p q pins)
   unfolding referenceClock referenceUnheld referenceHeld referenceInterrupt finishes w
-  clock-shows = go (stalled (pins .line)) (eqb (q .left) 0) (eqb (interruptChosen (q .visible .status) (pins .line)) 0)
+  clock-shows = go (stalled (pins .line)) (eqb (q .left) 0) refl (eqb (interruptChosen (q .visible .status) (pins .line)) 0)
     where
-      go : (s z c : Bool) → Shows q a (not s && cond z (c && eqb (charge G w q) 1) (eqb (q .left) 1)) (not s && z && not c)
+      go : (s z : Bool) → eqb (q .left) 0 ≡ z → (c : Bool)
+          → Shows q a (not s && cond z (c && eqb (charge G w q) 1) (eqb (q .left) 1)) (not s && z && not c)
           (cond s (referenceHeld q) (cond z (cond c (takeOff G w q (charge G w q) (pins .input))
           (referenceInterrupt (interruptChosen (q .visible .status) (pins .line)) q)) (takeOff G w q (q .left) (pins .input))))
-      go true z c = record { ends = λ e. clash e; else = λ _. refl; visible = λ _ _. refl; memory = λ _ _. refl }
-      go false true true = off-shows (charge G w q)
-      go false true false = record {
+      go true z y c = record { ends = λ e. clash e; else = λ _. refl; visible = λ _ _. refl; memory = λ _ _. refl }
+      go false true y true = off-shows (charge G w q) (λ e. absurd (let h = charge-pos G w q in omega arith))
+      go false true y false = record {
         ends = λ e. clash e;
         else = λ _. refl;
         visible = λ _ e. bool-clash true refl e;
         memory = λ _ e. bool-clash true refl e;
       }
-      go false false c = off-shows (q .left)
+      go false false y c = off-shows (q .left) (eqb-false (q .left) 0 y)
 
   finishes-done : (t : Bool) → finishes G p q pins ≡ t → referenceClock G p q pins .out .done ≡ cond t 1 0
   unfolding a

@@ -9,6 +9,7 @@ use mathlib.Core.List.{List, [], _∷_}
 use lib.Dec.{eqb}
 use borrow.Author.Tests.{eqb-true, eqb-false}
 use native.Mathlib.Omega.{arith}
+use Rattle.trm_laws.proofs.Tests.{same-test}
 use Rattle.trm_reference.specs.Geometry.{Geometry, burst, oneOf, geometryOk}
 use Rattle.trm_reference.specs.Visible.{wordAt}
 use Rattle.trm_reference.specs.Interrupt.{stalled, interruptChosen}
@@ -45,7 +46,7 @@ module _ (G : Geometry) (p : List ℕ) where
   taken-off : (w n i : ℕ) (q : Reference) (ds : List Did) → Booked G p q ds → n ≢ 0 → spentIn ds + n ≡ due G p q
       → Booked G p (takeOff G w q n i .state) (cond (eqb n 1) (finished (due G p q)) worked ∷ ds)
   unfolding takeOff
-  taken-off w n i q ds h z e = go (eqb n 1) refl
+  taken-off w n i q ds h z e = rw (same-test (n - 1) 0 n 1 (λ y. omega arith) (λ y. omega arith)) (go (eqb n 1) refl)
     where
       go : (t : Bool) → eqb n 1 ≡ t
           → Booked G p (cond t (carryOut G w q i) (spend G w q (n - 1)) .state) (cond t (finished (due G p q)) worked ∷ ds)

@@ -43,7 +43,7 @@ module _ (G : Geometry) where
   unfolding takeOff
   takeOff-more w q n n′ i e h =
       let d : n - 1 ≡ n′ = omega arith in
-      rw (ne-eqb n 1 (omega arith), d)
+      rw (d, ne-eqb n′ 0 (omega arith))
 
   pub moved-agrees : (p : List ℕ) (w : ℕ) (m : Machine) (s : List ℕ) (e : Extra) (r : Running) (ca : Cache) (s′ : List ℕ)
       (refilled written n : ℕ) → refillOver G w (plainOf m e) n ≡ refilled → writebackOver G w (plainOf m e) n ≡ written

@@ -44,7 +44,8 @@ number-is code (clockCall line input) outs = refl
 number-is code (runCall lines inputs bytes words) outs = go (eqb code 0) refl
   where
     go : (t : Bool) → eqb code 0 ≡ t
-        → numberOf (cond t (runEnds 0 (length lines) (finishedIn outs) (bytesOf outs) (wordsOf outs)) (runEnds code 0 0 bytes words)) ≡ code
+        → numberOf (cond t (runEnds 0 (length lines) (finishedIn outs) (bytesOf outs) (wordsOf outs)) (runEnds code 0 0 bytes words)) ≡
+        code
     go true e = sym (eqb-true code 0 e)
     go false e = refl
 
