@@ -18,7 +18,8 @@ use Rattle.trm_reference.specs.Reference.{Reference, referenceClock, referenceR
 use Rattle.trm_core.specs.Refusals.{programOk, countRow, clockRows, linesRefused, runRows}
 use Rattle.trm_core.specs.Run.{bytesOf, wordsOf}
 use Rattle.trm_agreement.specs.Log.{Entry, clocksOf, entries, calls, logOf, answersIn, returnsIn, fedOf, stateOf}
-use Rattle.trm_agreement.specs.Calls.{Call, clockCall, runCall, feed, answer, numberOf, runEnds, Ended, Seen, ownRows, referenceCode, referenceEngine}
+use Rattle.trm_agreement.specs.Calls.{Call, clockCall, runCall, feed, answer, Ended, numberOf, runEnds, Seen}
+use Rattle.trm_agreement.specs.Calls.{ownRows, referenceCode, referenceEngine}
 use Rattle.trm_agreement.specs.Claims.{All, NeverFive, CallsAreClocks}
 use Rattle.trm_agreement.proofs.Laws.Demand.{same-log}
 
