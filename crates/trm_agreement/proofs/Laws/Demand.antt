@@ -2,9 +2,9 @@
 -- Idea: the relation with room for the clocks of a call that row 8 lets through; it holds after a reset, and every clock keeps it.
 -- Assumes nothing.
 use Prim.Native.Nat.{ℕ, suc, _+_, _-_, _*_, _≤_, _<_}
-use mathlib.Core.Path.{_≡_, refl, sym, ap, _∙_}
+use mathlib.Core.Path.{_≡_, refl, sym, _∙_}
 use mathlib.Core.Bool.{Bool, true, false, cond, not, _||_}
-use mathlib.Core.List.{List, [], _∷_}
+use mathlib.Core.List.{List, []}
 use lib.ListN.{length, getD, drop, replicate, getD-replicate, length-drop, length-replicate}
 use lib.Seq.{length-take-le}
 use lib.Dec.{eqb, ltb}
@@ -21,6 +21,7 @@ use Rattle.trm_reference.specs.History.{since}
 use Rattle.trm_reference.specs.Trace.{Pins, After, pinsOf}
 use Rattle.trm_reference.specs.Reference.{Reference, charge, carryOut, spend, takeOff, referenceHeld, referenceInterrupt, referenceUnheld}
 use Rattle.trm_reference.specs.Reference.{referenceClock, referenceReset}
+use Rattle.trm_reference.proofs.Laws.Trace.{pins-length}
 use Rattle.trm_core.specs.Cache.{Cache, cache, stride, lineAt, view}
 use Rattle.trm_core.specs.Record.{Lent, cacheOf, resetOf}
 use Rattle.trm_core.specs.Clock.{clockOf}
@@ -56,12 +57,6 @@ clock-next G p q pins = chosen Next (stalled (pins .line)) refl
 
     off : (n : ℕ) → Next (takeOff G w q n (pins .input))
     off n = chosen Next (eqb (n - 1) 0) {a = carryOut G w q (pins .input)} {b = spend G w q (n - 1)} refl refl
-
-pub length-pins : (ls is : List ℕ) → length ls ≡ length is → length (pinsOf ls is) ≡ length ls
-unfolding pinsOf
-length-pins [] is e = refl
-length-pins (l ∷ ls) [] e = absurd (omega arith)
-length-pins (l ∷ ls) (i ∷ is) e = ap suc (length-pins ls is (omega arith))
 
 module _ (G : Geometry) (p : List ℕ) where
   -- in step, with room for n clocks more
@@ -145,7 +140,7 @@ module _ (G : Geometry) (p : List ℕ) where
       go : (same : Bool) → eqb (length lines) (length inputs) ≡ same → (long bad other : Bool)
           → cond (not same || long || bad) 6 (cond other 7 (countRow k (length lines))) ≡ 0
           → k + length (pinsOf lines inputs) ≤ 4294967295
-      go true e false false false y = rw (length-pins lines inputs (eqb-true (length lines) (length inputs) e))
+      go true e false false false y = rw (pins-length lines inputs (eqb-true (length lines) (length inputs) e))
           (count-room k (length lines) y)
       go true e false false true y = absurd (omega arith)
       go true e false true other y = absurd (omega arith)

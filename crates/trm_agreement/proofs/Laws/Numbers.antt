@@ -15,6 +15,7 @@ use Rattle.trm_reference.specs.Geometry.{Geometry}
 use Rattle.trm_reference.specs.Access.{Answer}
 use Rattle.trm_reference.specs.Trace.{Pins, After, clocks, endOf, outsOf, finishedIn}
 use Rattle.trm_reference.specs.Reference.{Reference, referenceClock, referenceReset}
+use Rattle.trm_reference.proofs.Laws.Trace.{clocks-append, endOf-append}
 use Rattle.trm_core.specs.Refusals.{programOk, countRow, clockRows, linesRefused, runRows}
 use Rattle.trm_core.specs.Run.{bytesOf, wordsOf}
 use Rattle.trm_agreement.specs.Log.{Entry, clocksOf, entries, calls, logOf, answersIn, returnsIn, fedOf, stateOf}
@@ -77,11 +78,11 @@ unfolding logOf returnsIn
 never-five G p s cs e r = rw (same-log G p s cs e r) (returns-not-five G p (referenceReset s) cs)
 
 -- the clocks of two lists of inputs, one after the other
-clocks-append : {S I O : Type 0} (step : S → I → After S O) (x : S) (is js : List I)
+end-append : {S I O : Type 0} (step : S → I → After S O) (x : S) (is js : List I)
     → endOf x (clocks step x (is ++ js)) ≡ endOf (endOf x (clocks step x is)) (clocks step (endOf x (clocks step x is)) js)
-unfolding clocks endOf
-clocks-append step x [] js = refl
-clocks-append step x (i ∷ is) js = clocks-append step (step x i .state) is js
+end-append step x is js =
+    ap (endOf x) (clocks-append step x is js)
+    ∙ endOf-append x (clocks step x is) (clocks step (endOf x (clocks step x is)) js)
 
 calls-state : (G : Geometry) (p : List ℕ) (q : Reference) (cs : List Call)
     → stateOf feed answer (referenceEngine G p) q cs
@@ -91,7 +92,7 @@ calls-state G p q [] = refl
 calls-state G p q (c ∷ cs) =
     calls-state G p (after (eqb (referenceCode G p q c) 0)) cs
     ∙ ap (λ y. endOf y (clocks (referenceClock G p) y rest)) (sym (here (eqb (referenceCode G p q c) 0)))
-    ∙ sym (clocks-append (referenceClock G p) q (cond (eqb (referenceCode G p q c) 0) (feed c) []) rest)
+    ∙ sym (end-append (referenceClock G p) q (cond (eqb (referenceCode G p q c) 0) (feed c) []) rest)
   where
     after : Bool → Reference
     after t = endOf q (cond t (clocks (referenceClock G p) q (feed c)) [])

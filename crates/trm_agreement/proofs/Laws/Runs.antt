@@ -1,16 +1,17 @@
 -- A run that is not refused is `runOf`: one clock to a line byte, its last state, counts and buffers.
 -- Idea: a run that is not refused has as many input words as line bytes.
 -- Assumes nothing.
-use Prim.Native.Nat.{ℕ, suc}
-use mathlib.Core.Path.{_≡_, refl, ap, _∙_}
+use Prim.Native.Nat.{ℕ}
+use mathlib.Core.Path.{_≡_, refl, _∙_}
 use mathlib.Core.Bool.{Bool, true, false, cond, not, _||_}
-use mathlib.Core.List.{List, [], _∷_}
+use mathlib.Core.List.{List}
 use lib.ListN.{length}
 use lib.Dec.{eqb, ltb}
 use borrow.Author.Tests.{eqb-true, eq-eqb}
 use native.Mathlib.Omega.{arith}
 use Rattle.trm_reference.specs.Geometry.{Geometry}
-use Rattle.trm_reference.specs.Trace.{After, pinsOf, clocks}
+use Rattle.trm_reference.specs.Trace.{pinsOf, clocks}
+use Rattle.trm_reference.proofs.Laws.Trace.{clocks-length, pins-length}
 use Rattle.trm_core.specs.Clock.{clockOf}
 use Rattle.trm_core.specs.Record.{Lent}
 use Rattle.trm_core.specs.Refusals.{allAtMost, programOk, storeOk, recordRows, linesRefused, runRows, runRefusal}
@@ -19,12 +20,6 @@ use Rattle.trm_core.specs.Run.{historyOf, runOf}
 use Rattle.trm_agreement.specs.Log.{clocksOf}
 use Rattle.trm_agreement.specs.Calls.{feed, answer, recordCode, recordEngine}
 use Rattle.trm_agreement.specs.Claims.{RunsAreRuns}
-use Rattle.trm_agreement.proofs.Laws.Demand.{length-pins}
-
-length-clocks : {S I O : Type 0} (step : S → I → After S O) (x : S) (is : List I) → length (clocks step x is) ≡ length is
-unfolding clocks
-length-clocks step x [] = refl
-length-clocks step x (i ∷ is) = ap suc (length-clocks step (step x i .state) is)
 
 -- row 6 lets only equal lengths through
 same-lengths : (G : Geometry) (p : List ℕ) (x : Lent) (lines inputs bytes words : List ℕ)
@@ -46,7 +41,7 @@ pub runs-are-runs : RunsAreRuns
 unfolding clocksOf recordEngine recordCode feed answer runOf historyOf
 runs-are-runs G p x lines inputs bytes words r = record {
   clocks = rw (eq-eqb (runRefusal G p (x .machine) (x .store) lines inputs bytes words) 0 r)
-      (length-clocks (clockOf G p) x (pinsOf lines inputs) ∙ length-pins lines inputs (same-lengths G p x lines inputs bytes words r));
+      (clocks-length (clockOf G p) x (pinsOf lines inputs) ∙ pins-length lines inputs (same-lengths G p x lines inputs bytes words r));
   state = rw (eq-eqb (runRefusal G p (x .machine) (x .store) lines inputs bytes words) 0 r);
   reports = rw (eq-eqb (runRefusal G p (x .machine) (x .store) lines inputs bytes words) 0 r);
 }
