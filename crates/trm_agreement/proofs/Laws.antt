@@ -1,4 +1,4 @@
--- The steps of the proof, in order: any two machines in step, the history, the relation, one clock, the list.
+-- The steps of the proof, in order: any two machines in step, the history, the relation, one clock, the list, what the calls hand back.
 -- Idea: the reference machine is the record's visible part and counts with a flat memory, a history and clocks left.
 -- Assumes nothing.
 pub mod Simulate
@@ -18,3 +18,6 @@ pub mod Interrupts
 pub mod Devices
 pub mod Numbers
 pub mod Runs
+pub mod Contracts
+pub mod Witness
+pub mod Exchange

@@ -17,7 +17,7 @@ use Rattle.trm_core.specs.Record.{Lent, visibleOf, cacheOf}
 use Rattle.trm_core.specs.Clock.{clockOf}
 use Rattle.trm_core.specs.Refusals.{programOk, clockRows, runRows, clockRefusal, runRefusal}
 use Rattle.trm_core.specs.Run.{bytesOf, wordsOf}
-use Rattle.trm_core.specs.Observe.{copyOf}
+use Rattle.trm_cache.specs.Cache.{copyOf}
 use Rattle.trm_agreement.specs.Log.{Engine}
 
 -- a run's last two lists are its answer buffers as they are lent

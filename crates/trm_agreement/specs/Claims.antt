@@ -1,41 +1,72 @@
 -- DEMAND 3 and the claims around it: one statement to a field of `Claims`, each under its sentence.
 -- Demand 3, "for any program, any first memory and any list of clock calls and runs from a reset"; paper: "one statement on the
--- whole list". For every geometry of `geometryOk`, the paper's among them; the value is in proofs/Theorems.antt. Assumes nothing.
-use Prim.Native.Nat.{ℕ, _+_, _*_, _≤_}
+-- whole list". Of what the calls hand back, `SameExchange`; the value is in proofs/Theorems.antt. Assumes nothing.
+use Prim.Native.Nat.{ℕ, _≤_}
 use mathlib.Core.Path.{_≡_}
 use mathlib.Core.Logic.{_≢_}
-use mathlib.Core.Bool.{Bool, true, false, not, _&&_, _||_}
+use mathlib.Core.Bool.{true}
 use mathlib.Core.List.{List, [], _∷_}
-use lib.ListN.{length}
-use lib.Dec.{eqb}
-use Rattle.trm_word.specs.Fields.{bit, destination}
-use Rattle.trm_alu.specs.Word.{flag}
+use lib.ListN.{length, take}
 use Rattle.trm_reference.specs.Geometry.{Geometry, paperGeometry, geometryOk}
-use Rattle.trm_reference.specs.Visible.{Visible, register, wordAt}
-use Rattle.trm_reference.specs.Access.{isLoad, isStore, placeOfWord, deviceNumber, toDevice, loaded, silent, answerOf}
-use Rattle.trm_reference.specs.Execute.{execute}
-use Rattle.trm_reference.specs.Interrupt.{stalled, interruptChosen}
-use Rattle.trm_reference.specs.Trace.{Pins, clocks, endOf, outsOf}
-use Rattle.trm_reference.specs.Reference.{Reference, charge, takeOff, referenceHeld, referenceInterrupt, referenceClock, referenceReset}
+use Rattle.trm_reference.specs.Trace.{clocks, endOf, outsOf, finishedIn}
+use Rattle.trm_reference.specs.Reference.{Reference, referenceClock, referenceReset}
+use Rattle.trm_word.specs.Claims.{Claims as WordClaims}
+use Rattle.trm_codec.specs.Claims.{Claims as CodecClaims}
+use Rattle.trm_alu.specs.Claims.{Claims as AluClaims}
+use Rattle.trm_reference.specs.Claims.{Claims as ReferenceClaims}
+use Rattle.trm_cache.specs.Claims.{Claims as CacheClaims}
 use Rattle.trm_core.specs.Record.{Lent, resetOf}
 use Rattle.trm_core.specs.Refusals.{resetRefusal, runRefusal}
-use Rattle.trm_reference.specs.Claims.{Claims as ReferenceClaims}
-use Rattle.trm_core.specs.Run.{runOf}
+use Rattle.trm_core.specs.Run.{historyOf, bytesOf, wordsOf, runOf}
 use Rattle.trm_core.specs.Claims.{Kept, Claims as CoreClaims}
+use Rattle.trm_refusals.specs.Numbers.{numberOf as refusalNumber}
+use Rattle.trm_engine.specs.declared.machine.Machine.{Machine}
+use Rattle.trm_calls.specs.declared.answer.Reset.{Reset}
+use Rattle.trm_calls.specs.declared.answer.Clock.{Clock}
+use Rattle.trm_calls.specs.declared.answer.Run.{Run}
+use Rattle.trm_calls.specs.Outcome.{lent}
 use Rattle.trm_agreement.specs.Log.{clocksOf, logOf, returnsIn, answersIn, fedOf, stateOf}
-use Rattle.trm_agreement.specs.Calls.{Call, runCall, feed, numberOf, answer, runEnds, recordEngine, referenceEngine}
-use Rattle.trm_agreement.specs.Ledger.{Did, heldIn, chargesIn, spentIn, isFinish, Took, due, did, ledgerFrom, longest}
-use Rattle.trm_agreement.specs.Devices.{finishes, accessesOf, deviceAnswers}
+use Rattle.trm_agreement.specs.Calls.{Call, runCall, feed, numberOf, answer, runEnds}
+use Rattle.trm_agreement.specs.Calls.{recordEngine, referenceEngine}
+use Rattle.trm_agreement.specs.Contracts.{ResetMet, ClockMet, RunMet}
+use Rattle.trm_agreement.specs.Exchange.{Returned, codeReturned, Exchange, exchangeOf}
+use Rattle.trm_agreement.specs.Plain.{LedgerKept, Bounded, DevicesHold, Quiet, InterruptsHold}
 
 -- the record and the store after an accepted reset
 abbrev pub start : Geometry → List ℕ → Lent
 start G s = record { machine = resetOf G s; store = s }
 
 -- DEMAND 3. For every program p, a bad one too, every first memory s that reset accepts and every list cs of clock calls and runs,
--- refused ones included: at the start and after every clock all that a programmer sees, memory as a copy gives it and all counts,
--- each answer, each refusal number and each run's counts and buffers are those of the reference machine. One equation of two logs.
+-- refused ones included, and for whatever these calls hand back that their contracts allow: one equation of two logs, that of the
+-- calls and that of the reference machine. "Seen" is all that a programmer sees, memory as a copy gives it and all counts. In a log:
+--   the start: what is seen of the record that reset returned and of the store;
+--   each clock of a call that is not refused: what is seen after it, its answer byte and word, and whether it finished an instruction;
+--   each call, refused or not: what is seen of the record that it returned and of the store at exit; its refusal number; of a run
+--   also the clocks used, the instructions finished and both answer buffers at exit.
+-- A clock call's clock is what the call handed back. A run hands back its last state alone, which its end shows: within a run the
+-- states between the first and the last, and each clock's entry, are those of the clock history (see `RunPrefix`).
+-- A call that lends another program or a store of another length is not in the list: refused, it is in `refused-keeps`.
 -- Both logs share, and so do not judge: what a word does (`execute`), the clock table (`chargeBy`), the answers, the interrupt rule,
 -- rows 3 and 6 to 8, `feed` and `answer`. For these stand the tables of trm_reference, the scenario and `runs-are-runs`.
+abbrev pub SameExchange : Type 0
+SameExchange =
+    (p s : List ℕ) (r : Reset) (cs : List Call) (as′ : List Returned)
+    → ResetMet s r → refusalNumber (r .refused) ≡ 0 → Exchange p (r .machine) s cs as′
+    → exchangeOf p (r .machine) s cs as′ ≡ logOf feed answer (referenceEngine paperGeometry p) (referenceReset s) cs
+
+-- `SameExchange` speaks of something: for every program, every first memory that reset accepts and every list of calls there are a
+-- reset's result and what the calls hand back that meet the contracts.
+pub record Exists (p s : List ℕ) (cs : List Call) : Type 0 where
+  pub reset : Reset
+  pub met : ResetMet s reset
+  pub accepted : refusalNumber (reset .refused) ≡ 0
+  pub returns : List Returned
+  pub exchange : Exchange p (reset .machine) s cs returns
+
+abbrev pub ExchangeExists : Type 0
+ExchangeExists = (p s : List ℕ) (cs : List Call) → resetRefusal s ≡ 0 → Exists p s cs
+
+-- The same of the definitions, for every geometry of `geometryOk`; demand 3 is `SameExchange`, of what the calls hand back.
 abbrev pub SameLog : Type 0
 SameLog =
     (G : Geometry) (p s : List ℕ) (cs : List Call) → geometryOk G ≡ true → resetRefusal s ≡ 0
@@ -52,6 +83,23 @@ NeverFive =
     (G : Geometry) (p s : List ℕ) (cs : List Call) → geometryOk G ≡ true → resetRefusal s ≡ 0
     → All (λ a. numberOf a ≢ 5) (returnsIn (logOf feed answer (recordEngine G p) (start G s) cs))
 
+-- the same of the numbers that the calls returned
+abbrev pub ExchangeNeverFive : Type 0
+ExchangeNeverFive =
+    (p s : List ℕ) (r : Reset) (cs : List Call) (as′ : List Returned)
+    → ResetMet s r → refusalNumber (r .refused) ≡ 0 → Exchange p (r .machine) s cs as′
+    → All (λ a. codeReturned a ≢ 5) as′
+
+-- "It returns the number only and writes nothing": whatever the call, if it is refused then the record returned, the store and the
+-- buffers are as they were given, the answers and the counts zero.
+pub record Refused : Type 0 where
+  pub clock : (m : Machine) (p s : List ℕ) (line input : ℕ) (r : Clock) (s′ : List ℕ) → ClockMet m p s line input r s′
+      → refusalNumber (r .refused) ≢ 0
+      → (r .machine ≡ m) × (s′ ≡ s) × (r .byte ≡ 0) × (r .word ≡ 0) × (r .finished ≡ 0)
+  pub run : (m : Machine) (p s lines inputs bytes words : List ℕ) (r : Run) (s′ bytes′ words′ : List ℕ)
+      → RunMet m p s lines inputs bytes words r s′ bytes′ words′ → refusalNumber (r .refused) ≢ 0
+      → (r .machine ≡ m) × (s′ ≡ s) × (bytes′ ≡ bytes) × (words′ ≡ words) × (r .used ≡ 0) × (r .finished ≡ 0)
+
 -- A list of calls is a list of clocks, those of the calls that were not refused: its last state, and the answers of its log.
 pub record CallsAreClocks (G : Geometry) (p : List ℕ) (q : Reference) (cs : List Call) : Type 0 where
   pub state : stateOf feed answer (referenceEngine G p) q cs
@@ -59,7 +107,7 @@ pub record CallsAreClocks (G : Geometry) (p : List ℕ) (q : Reference) (cs : Li
   pub answers : answersIn (logOf feed answer (referenceEngine G p) q cs)
       ≡ outsOf (clocks (referenceClock G p) q (fedOf feed answer (referenceEngine G p) q cs))
 
--- A run that is not refused is `runOf`, which its contract will cite: one clock to a line byte, its last state, counts and buffers.
+-- A run that is not refused is `runOf`, which its contract cites: one clock to a line byte, its last state, counts and buffers.
 pub record RunIs (G : Geometry) (p : List ℕ) (x : Lent) (lines inputs bytes words : List ℕ) : Type 0 where
   pub clocks : length (clocksOf feed answer (recordEngine G p) x (runCall lines inputs bytes words)) ≡ length lines
   pub state : endOf x (clocksOf feed answer (recordEngine G p) x (runCall lines inputs bytes words))
@@ -74,116 +122,52 @@ RunsAreRuns =
     (G : Geometry) (p : List ℕ) (x : Lent) (lines inputs bytes words : List ℕ)
     → runRefusal G p (x .machine) (x .store) lines inputs bytes words ≡ 0 → RunIs G p x lines inputs bytes words
 
+-- The clocks within a run: a run of its first k lines uses k clocks, ends in the k-th state of the clock history, and reports and
+-- writes the answers of its first k clocks.
+pub record Prefix (m : Machine) (p s lines inputs : List ℕ) (k : ℕ) (r : Run) (s′ bytes′ words′ : List ℕ) : Type 0 where
+  pub used : r .used ≡ k
+  pub state : lent (r .machine) s′ ≡ endOf (lent m s) (take k (historyOf paperGeometry p (lent m s) lines inputs))
+  pub finished : r .finished ≡ finishedIn (outsOf (take k (historyOf paperGeometry p (lent m s) lines inputs)))
+  pub bytes : bytes′ ≡ bytesOf (outsOf (take k (historyOf paperGeometry p (lent m s) lines inputs)))
+  pub words : words′ ≡ wordsOf (outsOf (take k (historyOf paperGeometry p (lent m s) lines inputs)))
+
+abbrev pub RunPrefix : Type 0
+RunPrefix =
+    (m : Machine) (p s lines inputs bytes words : List ℕ) (k : ℕ) (r : Run) (s′ bytes′ words′ : List ℕ) → k ≤ length lines
+    → RunMet m p s (take k lines) (take k inputs) bytes words r s′ bytes′ words′ → refusalNumber (r .refused) ≡ 0
+    → Prefix m p s lines inputs k r s′ bytes′ words′
+
+-- The first k lines of a run that is not refused, with as much of its inputs and buffers, are not refused: so `RunPrefix` has a run
+-- to speak of at every k.
+abbrev pub PrefixAccepted : Type 0
+PrefixAccepted =
+    (G : Geometry) (p : List ℕ) (x : Lent) (lines inputs bytes words : List ℕ) (k : ℕ) → k ≤ length lines
+    → runRefusal G p (x .machine) (x .store) lines inputs bytes words ≡ 0
+    → runRefusal G p (x .machine) (x .store) (take k lines) (take k inputs) (take k bytes) (take k words) ≡ 0
+
 -- The record after an accepted reset is accepted: with `record-kept`, so is every record of a list.
 abbrev pub ResetKept : Type 0
 ResetKept =
     (G : Geometry) (p s : List ℕ) → geometryOk G ≡ true → resetRefusal s ≡ 0 → Kept G p (start G s)
 
--- The ledger after any clocks: clocks = held + charges of what finished + unheld clocks spent on the one in flight; what is spent
--- and what is left are its charge; what finished took its charge.
-pub record Booked (G : Geometry) (p : List ℕ) (q : Reference) (ds : List Did) : Type 0 where
-  pub sum : q .clocks ≡ heldIn ds + chargesIn ds + spentIn ds
-  pub held : q .held ≡ heldIn ds
-  pub between : q .left ≡ 0 → spentIn ds ≡ 0
-  pub flying : q .left ≢ 0 → spentIn ds + q .left ≡ due G p q
-  pub took : Took ds
-
-abbrev pub LedgerKept : Type 0
-LedgerKept =
-    (G : Geometry) (p s : List ℕ) (is : List Pins)
-    → Booked G p (endOf (referenceReset s) (clocks (referenceClock G p) (referenceReset s) is)) (ledgerFrom G p (referenceReset s) is [])
-
--- Every charge is 1 at least and the longest at most, which is 161 with the paper's cache: by `took`, no instruction takes more.
-pub record Bounded : Type 0 where
-  pub fits : geometryOk paperGeometry ≡ true
-  pub positive : (G : Geometry) (w : ℕ) (q : Reference) → 1 ≤ charge G w q
-  pub charges : (G : Geometry) (w : ℕ) (q : Reference) → charge G w q ≤ longest G
-  pub paper : longest paperGeometry ≡ 161
-
--- Devices, clock by clock: the clock that carries a word out answers for it, any other clock is silent.
-pub record Told (G : Geometry) (p : List ℕ) (q : Reference) (pins : Pins) : Type 0 where
-  pub counts : referenceClock G p q pins .out .done ≡ flag (finishes G p q pins)
-  pub booked : isFinish (did G p q pins) ≡ finishes G p q pins
-  pub done : referenceClock G p q pins .out .done ≡ 1 → referenceClock G p q pins .out
-      ≡ answerOf (wordAt p (q .visible .pc)) (q .visible) (length (q .memory)) (pins .input)
-  pub quiet : referenceClock G p q pins .out .done ≡ 0 → referenceClock G p q pins .out ≡ silent 0
-
--- A load's word is the clock's input word, and R.d gets it; a store's word is R.d; without a device both are zero.
-pub record Moves (w : ℕ) (v : Visible) (n i x : ℕ) : Type 0 where
-  pub read : toDevice w v n ≡ true → isLoad w ≡ true
-      → answerOf w v n i ≡ record { byte = deviceNumber (placeOfWord w v n) * 4 + 1; word = i; done = 1 }
-  pub arrives : toDevice w v n ≡ true → isLoad w ≡ true → 16 ≤ length (v .regs)
-      → register (execute w v (loaded w v n i x)) (destination w) ≡ i
-  pub write : toDevice w v n ≡ true → isStore w ≡ true
-      → answerOf w v n i ≡ record { byte = deviceNumber (placeOfWord w v n) * 4 + 2; word = register v (destination w); done = 1 }
-  pub none : toDevice w v n ≡ false → answerOf w v n i ≡ silent 1
-
--- Devices, in order: the answers of any clocks that show an access are the accesses of the words carried out, once each.
-abbrev pub InOrder : Type 0
-InOrder =
-    (G : Geometry) (p : List ℕ) (q : Reference) (is : List Pins)
-    → deviceAnswers (outsOf (clocks (referenceClock G p) q is)) ≡ accessesOf G p q is
-
-pub record DevicesHold : Type 0 where
-  pub told : (G : Geometry) (p : List ℕ) (q : Reference) (pins : Pins) → Told G p q pins
-  pub moves : (w : ℕ) (v : Visible) (n i x : ℕ) → Moves w v n i x
-  pub ordered : InOrder
-
--- A clock that neither carries a word out nor takes an interrupt leaves all that a programmer sees, and memory, as they were.
-pub record Still (G : Geometry) (p : List ℕ) (q : Reference) (pins : Pins) : Type 0 where
-  pub visible : referenceClock G p q pins .state .visible ≡ q .visible
-  pub memory : referenceClock G p q pins .state .memory ≡ q .memory
-
--- an unheld clock with nothing in flight takes an interrupt exactly if the rule names one
-abbrev pub acknowledged : Reference → Pins → Bool
-acknowledged q pins =
-    not (stalled (pins .line)) && eqb (q .left) 0 && not (eqb (interruptChosen (q .visible .status) (pins .line)) 0)
-
-abbrev pub Quiet : Type 0
-Quiet =
-    (G : Geometry) (p : List ℕ) (q : Reference) (pins : Pins)
-    → referenceClock G p q pins .out .done ≡ 0 → acknowledged q pins ≡ false → Still G p q pins
-
--- The rule in bits: an interrupt is named iff the mode is 0 and an enabled line is high; line 0 goes to 2, line 1 alone to 3.
-pub record Rule (status line : ℕ) : Type 0 where
-  pub named : not (eqb (interruptChosen status line) 0)
-      ≡ not (eqb (bit 2 status) 1) && (eqb (bit 0 status) 1 && eqb (bit 0 line) 1 || eqb (bit 1 status) 1 && eqb (bit 1 line) 1)
-  pub zeroth : bit 2 status ≡ 0 → bit 0 status ≡ 1 → bit 0 line ≡ 1 → interruptChosen status line ≡ 2
-  pub first : bit 2 status ≡ 0 → bit 0 status * bit 0 line ≡ 0 → bit 1 status ≡ 1 → bit 1 line ≡ 1 → interruptChosen status line ≡ 3
-
--- The whole rule in one line: unheld, nothing in flight, mode 0, and an enabled line high.
-abbrev pub When : Reference → Pins → Type 0
-When q pins =
-    acknowledged q pins
-    ≡ not (eqb (bit 2 (pins .line)) 1) && eqb (q .left) 0
-    && (not (eqb (bit 2 (q .visible .status)) 1)
-    && (eqb (bit 0 (q .visible .status)) 1 && eqb (bit 0 (pins .line)) 1
-    || eqb (bit 1 (q .visible .status)) 1 && eqb (bit 1 (pins .line)) 1))
-
--- When it is taken: held, nothing; between instructions, the interrupt named, or else the word begins; in flight, the word goes on.
-pub record Taken (G : Geometry) (p : List ℕ) (q : Reference) (pins : Pins) : Type 0 where
-  pub held : stalled (pins .line) ≡ true → referenceClock G p q pins ≡ referenceHeld q
-  pub takes : stalled (pins .line) ≡ false → q .left ≡ 0 → interruptChosen (q .visible .status) (pins .line) ≢ 0
-      → referenceClock G p q pins ≡ referenceInterrupt (interruptChosen (q .visible .status) (pins .line)) q
-  pub begins : stalled (pins .line) ≡ false → q .left ≡ 0 → interruptChosen (q .visible .status) (pins .line) ≡ 0
-      → referenceClock G p q pins
-      ≡ takeOff G (wordAt p (q .visible .pc)) q (charge G (wordAt p (q .visible .pc)) q) (pins .input)
-  pub goesOn : stalled (pins .line) ≡ false → q .left ≢ 0
-      → referenceClock G p q pins ≡ takeOff G (wordAt p (q .visible .pc)) q (q .left) (pins .input)
-
-pub record InterruptsHold : Type 0 where
-  pub rule : (status line : ℕ) → Rule status line
-  pub iff : (q : Reference) (pins : Pins) → When q pins
-  pub taken : (G : Geometry) (p : List ℕ) (q : Reference) (pins : Pins) → Taken G p q pins
-
--- All claims: those of the two machines below, and these.
+-- All claims of the project: those of the crates below, and these.
 pub record Claims : Type 0 where
+  pub word : WordClaims
+  pub codec : CodecClaims
+  pub alu : AluClaims
   pub reference : ReferenceClaims
+  pub cache : CacheClaims
   pub core : CoreClaims
+  pub same-exchange : SameExchange
+  pub exchange-exists : ExchangeExists
   pub same-log : SameLog
+  pub exchange-never-five : ExchangeNeverFive
   pub never-five : NeverFive
+  pub refused-keeps : Refused
   pub calls-are-clocks : (G : Geometry) (p : List ℕ) (q : Reference) (cs : List Call) → CallsAreClocks G p q cs
   pub runs-are-runs : RunsAreRuns
+  pub run-prefix : RunPrefix
+  pub prefix-accepted : PrefixAccepted
   pub reset-kept : ResetKept
   pub ledger-kept : LedgerKept
   pub bounded : Bounded

@@ -1,4 +1,4 @@
--- The log of a machine over a list of calls: what is seen at the start and after every clock, and what every call returns.
+-- The log of a machine over a list of calls: what is seen at the start, after every clock and after every call, and what it returns.
 -- Paper: "Demand 3 is one statement on the whole list, not one on each call". Any machine, inputs, answers and calls.
 -- Assumes nothing.
 --   Engine                      a machine: one clock, what is seen of a state, the number by which a call is turned down
@@ -17,11 +17,11 @@ pub record Engine (S I O W C : Type 0) : Type 0 where
   pub seen : S → W
   pub code : S → C → ℕ
 
--- a line of the log: the start; a clock, what is seen after it and its answer; what a call returns
+-- a line of the log: the start; a clock, what is seen after it and its answer; a call, what is seen once it is over and what it returns
 pub data Entry (O W A : Type 0) : Type 0 where
   started : W → Entry O W A
   clocked : W → O → Entry O W A
-  ended : A → Entry O W A
+  ended : W → A → Entry O W A
 
 -- feed: the inputs of a call, one to a clock; answer: what a call returns, by its number and its clocks' outputs
 module _ {S I O W C A : Type 0} (feed : C → List I) (answer : ℕ → C → List O → A) (E : Engine S I O W C) where
@@ -36,7 +36,9 @@ module _ {S I O W C A : Type 0} (feed : C → List I) (answer : ℕ → C → Li
   unfoldable pub calls : S → List C → List (Entry O W A)
   calls x [] = []
   calls x (c ∷ cs) =
-      entries (clocksOf x c) ++ ended (answer (E .code x c) c (outsOf (clocksOf x c))) ∷ calls (endOf x (clocksOf x c)) cs
+      entries (clocksOf x c)
+      ++ ended (E .seen (endOf x (clocksOf x c))) (answer (E .code x c) c (outsOf (clocksOf x c)))
+      ∷ calls (endOf x (clocksOf x c)) cs
 
   unfoldable pub logOf : S → List C → List (Entry O W A)
   logOf x cs = started (E .seen x) ∷ calls x cs
@@ -55,10 +57,10 @@ unfoldable pub answersIn : {O W A : Type 0} → List (Entry O W A) → List O
 answersIn [] = []
 answersIn (started w ∷ es) = answersIn es
 answersIn (clocked w o ∷ es) = o ∷ answersIn es
-answersIn (ended a ∷ es) = answersIn es
+answersIn (ended w a ∷ es) = answersIn es
 
 unfoldable pub returnsIn : {O W A : Type 0} → List (Entry O W A) → List A
 returnsIn [] = []
 returnsIn (started w ∷ es) = returnsIn es
 returnsIn (clocked w o ∷ es) = returnsIn es
-returnsIn (ended a ∷ es) = a ∷ returnsIn es
+returnsIn (ended w a ∷ es) = a ∷ returnsIn es

@@ -1,12 +1,8 @@
 -- The laws of the clocked machine's definitions, one theme to a file.
--- Idea: callers use these and never unfold the cache.
+-- Idea: callers use these and never unfold the clock.
 -- Assumes nothing.
 pub mod Fit
 pub mod Kind
-pub mod Lines
-pub mod Cache
-pub mod Bursts
-pub mod Dirty
 pub mod Deaf
 pub mod Rule
 pub mod Phases

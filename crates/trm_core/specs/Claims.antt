@@ -19,8 +19,8 @@ use Rattle.trm_reference.specs.Interrupt.{stalled, interruptChosen, interrupted
 use Rattle.trm_reference.specs.Charge.{turnsCacheOff, uncachedCharge}
 use Rattle.trm_reference.specs.Trace.{Pins, After}
 use Rattle.trm_core.specs.declared.record.Running.{Running}
-use Rattle.trm_core.specs.declared.record.Machine.{Machine}
-use Rattle.trm_core.specs.Cache.{Cache, stride, countDirty}
+use Rattle.trm_core.specs.Record.{Machine}
+use Rattle.trm_cache.specs.Cache.{Cache, stride, countDirty}
 use Rattle.trm_core.specs.Record.{Lent, visibleOf, cacheOf}
 use Rattle.trm_core.specs.Clock.{chargeHere, carried, worked, heldClock, clockOf}
 use Rattle.trm_core.specs.Rule.{recordOk}

@@ -20,9 +20,9 @@ use Rattle.trm_reference.specs.Charge.{isStepped, throughCache, pastCache, turn
 use Rattle.trm_reference.specs.Trace.{Pins, After}
 use Rattle.trm_core.specs.declared.record.Running.{Running}
 use Rattle.trm_core.specs.declared.record.Scalars.{Scalars}
-use Rattle.trm_core.specs.declared.record.Machine.{Machine}
-use Rattle.trm_core.specs.Cache.{Cache, Line, lineAt, holds, view, emptied, cleaned, filled, storedTo, writeWord, fillWord}
-use Rattle.trm_core.specs.Cache.{countDirty, firstDirty, allEmptied}
+use Rattle.trm_core.specs.Record.{Machine}
+use Rattle.trm_cache.specs.Cache.{Cache, Line, lineAt, holds, view, emptied, cleaned, filled, storedTo, writeWord, fillWord}
+use Rattle.trm_cache.specs.Cache.{countDirty, firstDirty, allEmptied}
 use Rattle.trm_core.specs.Record.{Lent, visibleOf, cacheOf, whole, stepping, inPhase, advanced, ended, waited}
 
 -- what a clock leaves that carries nothing out: the registers stay

@@ -1,7 +1,6 @@
--- The clocked machine, in reading order: the record, its cache, the clock, the run, what calls give back and when they are refused.
+-- The clocked machine, in reading order: the record, the clock, the run, what calls give back and when they are refused.
 -- Paper: "Clock by clock"; "Where calls are turned down".
 -- Assumes nothing.
-pub mod Cache
 pub mod Record
 pub mod Clock
 pub mod Rule

@@ -16,8 +16,16 @@ use Rattle.trm_reference.specs.Visible.{Visible}
 use Rattle.trm_reference.specs.Execute.{operandA, operandB}
 use Rattle.trm_core.specs.declared.record.Running.{Running}
 use Rattle.trm_core.specs.declared.record.Scalars.{Scalars}
-use Rattle.trm_core.specs.declared.record.Machine.{Machine}
-use Rattle.trm_core.specs.Cache.{Cache, cache, stride}
+use Rattle.trm_cache.specs.Cache.{Cache, cache, stride}
+
+-- the record: bank 0 and bank 1 of the registers; for each line full, dirty (0 or 1) and block; the words of all lines
+pub record Machine : Type 0 where
+  pub scalars : Scalars
+  pub regs : List ℕ
+  pub full : List ℕ
+  pub dirty : List ℕ
+  pub block : List ℕ
+  pub words : List ℕ
 
 -- what a programmer sees, gathered from the scalars and the registers
 abbrev pub gathered : Scalars → List ℕ → Visible

@@ -9,7 +9,7 @@ use lib.ListN.{length}
 use lib.Dec.{eqb, leb, ltb}
 use Rattle.trm_word.specs.Address.{storeLengthOk}
 use Rattle.trm_reference.specs.Geometry.{Geometry}
-use Rattle.trm_core.specs.declared.record.Machine.{Machine}
+use Rattle.trm_core.specs.Record.{Machine}
 use Rattle.trm_core.specs.Rule.{recordOk}
 
 -- every number of the list is at most the limit

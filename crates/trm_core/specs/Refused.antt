@@ -12,8 +12,8 @@ use Rattle.trm_reference.specs.Access.{Answer}
 use Rattle.trm_reference.specs.Trace.{After}
 use Rattle.trm_core.specs.declared.record.Counts.{Counts}
 use Rattle.trm_core.specs.declared.record.Running.{Running}
-use Rattle.trm_core.specs.declared.record.Machine.{Machine}
-use Rattle.trm_core.specs.Cache.{Cache, cache}
+use Rattle.trm_core.specs.Record.{Machine}
+use Rattle.trm_cache.specs.Cache.{Cache, cache}
 use Rattle.trm_core.specs.Record.{Lent, whole, resetOf, inPhase}
 use Rattle.trm_core.specs.Refusals.{resetRefusal, clockRefusal, runRefusal, lookRefusal, copyRefusal, watchRefusal}
 use Rattle.trm_core.specs.Scenario.{program, recordHistory}

@@ -14,8 +14,8 @@ use Rattle.trm_reference.specs.Access.{isLoad, toMemory, toDevice}
 use Rattle.trm_reference.specs.Charge.{isStepped, isJump, takesBranch, throughCache, pastCache, turnsCacheOff}
 use Rattle.trm_core.specs.declared.record.Counts.{Counts}
 use Rattle.trm_core.specs.declared.record.Running.{Running}
-use Rattle.trm_core.specs.declared.record.Machine.{Machine}
-use Rattle.trm_core.specs.Cache.{Cache, Line, lineAt, countDirty}
+use Rattle.trm_core.specs.Record.{Machine}
+use Rattle.trm_cache.specs.Cache.{Cache, Line, lineAt, countDirty}
 use Rattle.trm_core.specs.Record.{visibleOf, cacheOf, productAt, remainderAt, quotientAt}
 use Rattle.trm_core.specs.Clock.{lineFor, hits}
 
@@ -42,7 +42,7 @@ unfoldable pub arithmeticOk : ℕ → ℕ → Bool
 arithmeticOk w count = leb 1 count && leb count 32 && isStepped w
 
 module _ (G : Geometry) where
-  -- "2 write-back, 0–9, on a full dirty line"; "2 needs 12 or 13 to memory, its line holding another block, or 11 clearing bit 3"
+  -- "2 write-back, 0–9, on a full dirty line"; "2 needs 12 or 13 to memory, its line holding another block, or 11 clearing status bit 3"
   unfoldable pub writebackOk : ℕ → ℕ → ℕ → Visible → Cache → Bool
   writebackOk w n count v ca =
       ltb count (burst G)

@@ -15,10 +15,10 @@ use Rattle.trm_reference.specs.Trace.{Pins, After, pinsOf, clocks}
 use Rattle.trm_reference.specs.Reference.{Reference, referenceReset, referenceClock}
 use Rattle.trm_core.specs.declared.record.Running.{Running}
 use Rattle.trm_core.specs.declared.record.Counts.{Counts}
-use Rattle.trm_core.specs.declared.record.Machine.{Machine}
+use Rattle.trm_core.specs.Record.{Machine}
 use Rattle.trm_core.specs.Record.{Lent, visibleOf, resetOf}
 use Rattle.trm_core.specs.Clock.{clockOf}
-use Rattle.trm_core.specs.Observe.{below}
+use Rattle.trm_cache.specs.Cache.{below}
 
 unfoldable pub program : List ℕ
 program =

@@ -1,4 +1,4 @@
-// The machine record, as callers hold it: numbers only, so that any bytes are a record and row 5 judges them.
+// The record's scalars: numbers only, so that any bytes are a record and row 5 judges them.
 // Paper: "The record holds phase and count"; "The record also counts finished refills and write-backs".
 // Most scalars are 64 bits wide for speed; row 5 holds each to its own width, and row 4 `size` to the store.
 
@@ -34,15 +34,4 @@ pub struct Scalars {
     pub running: Running,
     pub size: u64,
     pub counts: Counts,
-}
-
-// The record: bank 0 and bank 1 of the registers; for each line full, dirty (0 or 1) and block; the lines' words, eight to a line.
-#[repr(C)]
-pub struct Machine {
-    pub scalars: Scalars,
-    pub regs: [u32; 16],
-    pub full: [u8; 16],
-    pub dirty: [u8; 16],
-    pub block: [u16; 16],
-    pub words: [u32; 128],
 }

@@ -11,9 +11,9 @@ use Rattle.trm_laws.proofs.Tests.{bool-clash}
 use Rattle.trm_reference.specs.Geometry.{Geometry}
 use Rattle.trm_reference.specs.Visible.{Visible, wordAt, cacheOn}
 use Rattle.trm_reference.specs.History.{Event}
-use Rattle.trm_core.specs.declared.record.Machine.{Machine}
+use Rattle.trm_core.specs.Record.{Machine}
 use Rattle.trm_core.specs.declared.record.Running.{Running}
-use Rattle.trm_core.specs.Cache.{Cache, lineAt}
+use Rattle.trm_cache.specs.Cache.{Cache, lineAt}
 use Rattle.trm_core.specs.Record.{visibleOf, cacheOf, stepping, inPhase}
 use Rattle.trm_core.specs.Clock.{hits, lineFor}
 use Rattle.trm_core.specs.Rule.{recordOk}

@@ -12,10 +12,10 @@ use Rattle.trm_reference.specs.Access.{isStore}
 use Rattle.trm_reference.specs.History.{dirtyNow, dirtyLines}
 use Rattle.trm_reference.specs.Charge.{missCharge, chargeBy}
 use Rattle.trm_reference.specs.Reference.{Reference, charge, misses, evicts}
-use Rattle.trm_core.specs.Cache.{Cache}
+use Rattle.trm_cache.specs.Cache.{Cache}
 use Rattle.trm_core.specs.Clock.{chargeHere}
 use Rattle.trm_core.proofs.Laws.Kind.{Kind, quick, second, longer, device, cached, uncached, clearing, kindOf, kind-is, chargeOfKind}
-use Rattle.trm_core.proofs.Laws.Dirty.{howMany-le}
+use Rattle.trm_cache.proofs.Laws.Dirty.{howMany-le}
 use Rattle.trm_agreement.specs.Ledger.{longest}
 
 module _ (G : Geometry) where

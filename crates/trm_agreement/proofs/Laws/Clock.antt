@@ -17,9 +17,9 @@ use Rattle.trm_reference.specs.Charge.{uncachedCharge}
 use Rattle.trm_reference.specs.Trace.{Pins}
 use Rattle.trm_reference.specs.Reference.{charge, spend, takeOff, referenceHeld, referenceInterrupt, referenceUnheld, referenceClock}
 use Rattle.trm_reference.proofs.Laws.Execute.{interrupted-on, interrupted-narrow}
-use Rattle.trm_core.specs.declared.record.Machine.{Machine}
+use Rattle.trm_core.specs.Record.{Machine}
 use Rattle.trm_core.specs.declared.record.Running.{Running}
-use Rattle.trm_core.specs.Cache.{countDirty}
+use Rattle.trm_cache.specs.Cache.{countDirty}
 use Rattle.trm_core.specs.Record.{visibleOf, cacheOf, stepping, inPhase}
 use Rattle.trm_core.specs.Clock.{Moved, quiet, carried, chargeHere, isLast, advance, worked, unheld, heldClock, clockOf}
 use Rattle.trm_core.proofs.Laws.Kind.{Kind, longer, uncached, kindOf, Is, is-of}

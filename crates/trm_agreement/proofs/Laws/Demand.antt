@@ -22,15 +22,15 @@ use Rattle.trm_reference.specs.Trace.{Pins, After, pinsOf}
 use Rattle.trm_reference.specs.Reference.{Reference, charge, carryOut, spend, takeOff, referenceHeld, referenceInterrupt, referenceUnheld}
 use Rattle.trm_reference.specs.Reference.{referenceClock, referenceReset}
 use Rattle.trm_reference.proofs.Laws.Trace.{pins-length}
-use Rattle.trm_core.specs.Cache.{Cache, cache, stride, lineAt, view}
+use Rattle.trm_cache.specs.Cache.{Cache, cache, stride, lineAt, view}
 use Rattle.trm_core.specs.Record.{Lent, cacheOf, resetOf}
 use Rattle.trm_core.specs.Clock.{clockOf}
 use Rattle.trm_core.specs.Refusals.{allAtMost, programOk, storeOk, recordRows, countRow, clockRows, linesRefused, runRows, resetRefusal}
 use Rattle.trm_core.specs.Refusals.{clockRefusal, runRefusal}
 use Rattle.trm_core.specs.Rule.{recordOk}
 use Rattle.trm_core.proofs.Laws.Fit.{Fit, fit, any-line-in}
-use Rattle.trm_core.proofs.Laws.Cache.{Sane, empty-view}
-use Rattle.trm_core.proofs.Laws.Dirty.{copy-is}
+use Rattle.trm_cache.proofs.Laws.Cache.{Sane, empty-view}
+use Rattle.trm_cache.proofs.Laws.Dirty.{copy-is}
 use Rattle.trm_agreement.specs.Log.{logOf}
 use Rattle.trm_agreement.specs.Calls.{Call, clockCall, runCall, feed, answer, recordSeen, recordCode, recordEngine, referenceSeen}
 use Rattle.trm_agreement.specs.Calls.{ownRows, referenceCode, referenceEngine}

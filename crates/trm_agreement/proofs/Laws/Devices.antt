@@ -28,7 +28,7 @@ use Rattle.trm_core.proofs.Laws.Deaf.{load-only, answer-done}
 use Rattle.trm_agreement.proofs.Laws.Bounds.{charge-pos}
 use Rattle.trm_agreement.specs.Ledger.{waited, acknowledged as idle, worked, finished, isFinish, due, did}
 use Rattle.trm_agreement.specs.Devices.{finishes, accessesDevice, accessesOf, deviceAnswers}
-use Rattle.trm_agreement.specs.Claims.{Told, Moves, InOrder, DevicesHold, acknowledged, Quiet}
+use Rattle.trm_agreement.specs.Plain.{Told, Moves, InOrder, DevicesHold, acknowledged, Quiet}
 
 -- the outcome of a clock, told by what it does: a finishing one answers a, any other is silent and still
 record Shows (q : Reference) (a : Answer) (end interrupt : Bool) (u : After Reference Answer) : Type 0 where

@@ -19,16 +19,16 @@ use Rattle.trm_reference.specs.History.{Touch, Event, access, since, lastIn, la
 use Rattle.trm_reference.specs.Charge.{turnsCacheOff}
 use Rattle.trm_reference.specs.Reference.{carryOut, memoryAfter, historyAfter}
 use Rattle.trm_reference.proofs.Laws.Execute.{execute-on, execute-narrow}
-use Rattle.trm_core.specs.declared.record.Machine.{Machine}
-use Rattle.trm_core.specs.Cache.{Cache, Line, lineAt, view, storedTo, countDirty}
+use Rattle.trm_core.specs.Record.{Machine}
+use Rattle.trm_cache.specs.Cache.{Cache, Line, lineAt, view, storedTo, countDirty}
 use Rattle.trm_core.specs.Record.{visibleOf, cacheOf}
 use Rattle.trm_core.specs.Clock.{cacheAfter, storeAfter, finish}
 use Rattle.trm_core.proofs.Laws.Kind.{Kind, quick, second, longer, device, cached, uncached, clearing, Is, isClearing, isCached}
 use Rattle.trm_core.proofs.Laws.Kind.{isUncached, inMemory}
 use Rattle.trm_core.proofs.Laws.Fit.{target-in, any-line-in}
-use Rattle.trm_core.proofs.Laws.Lines.{emptyLine, storeLine, Becomes, becomes-stored}
-use Rattle.trm_core.proofs.Laws.Cache.{Sane, holds-full, holds-block, empty-view, sane-update, stored-ok, stored-view, stored-view-other}
-use Rattle.trm_core.proofs.Laws.Dirty.{emptied-at, allEmptied-sane, allEmptied-view}
+use Rattle.trm_cache.proofs.Laws.Lines.{emptyLine, storeLine, Becomes, becomes-stored}
+use Rattle.trm_cache.proofs.Laws.Cache.{Sane, holds-full, holds-block, empty-view, sane-update, stored-ok, stored-view, stored-view-other}
+use Rattle.trm_cache.proofs.Laws.Dirty.{emptied-at, allEmptied-sane, allEmptied-view}
 use Rattle.trm_agreement.proofs.Laws.History.{Judged, Matches, judged-access, judged-none, since-here, since-there, since-emptying}
 use Rattle.trm_agreement.proofs.Laws.Relation.{Extra, plainOf, Common, MatchesBut, Due, ready, Agree}
 

@@ -15,16 +15,16 @@ use Rattle.trm_reference.specs.Access.{isStore, targetBlock, targetLine}
 use Rattle.trm_reference.specs.Charge.{missCharge, uncachedCharge}
 use Rattle.trm_reference.specs.History.{since}
 use Rattle.trm_reference.specs.Reference.{spend, misses, evicts, charge}
-use Rattle.trm_core.specs.declared.record.Machine.{Machine}
-use Rattle.trm_core.specs.Cache.{Line, lineAt, holds, emptied, countDirty}
+use Rattle.trm_core.specs.Record.{Machine}
+use Rattle.trm_cache.specs.Cache.{Line, lineAt, holds, emptied, countDirty}
 use Rattle.trm_core.specs.Record.{visibleOf, cacheOf, stepping, inPhase}
 use Rattle.trm_core.specs.Clock.{moved, quiet, missing, firstClock, lineFor, hits, chargeHere}
 use Rattle.trm_core.proofs.Laws.Kind.{Kind, quick, second, longer, device, cached, uncached, clearing, kindOf, Is, chargeOfKind}
 use Rattle.trm_core.proofs.Laws.Fit.{line-in}
 use Rattle.trm_core.proofs.Laws.Phases.{due-second, due-device, due-cached, charge-is, one-hits}
-use Rattle.trm_core.proofs.Laws.Lines.{emptyLine, Becomes, becomes-empty}
-use Rattle.trm_core.proofs.Laws.Cache.{LineOk, sane-update, clean-swap, emptied-ok}
-use Rattle.trm_core.proofs.Laws.Bursts.{Written, Filled}
+use Rattle.trm_cache.proofs.Laws.Lines.{emptyLine, Becomes, becomes-empty}
+use Rattle.trm_cache.proofs.Laws.Cache.{LineOk, sane-update, clean-swap, emptied-ok}
+use Rattle.trm_cache.proofs.Laws.Bursts.{Written, Filled}
 use Rattle.trm_agreement.proofs.Laws.History.{Judged, Matches, dirty-lines}
 use Rattle.trm_agreement.proofs.Laws.Relation.{Extra, plainOf, Common, Holding, Due, Agree, arithmetic, writeBack, refill, waiting}
 use Rattle.trm_agreement.proofs.Laws.Relation.{last}

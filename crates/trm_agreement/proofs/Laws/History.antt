@@ -10,9 +10,9 @@ use lib.Dec.{eqb}
 use borrow.Author.Tests.{eqb-true, eq-eqb, ne-eqb}
 use Rattle.trm_reference.specs.Geometry.{Geometry, lineOf}
 use Rattle.trm_reference.specs.History.{Touch, Event, access, emptying, since, lastIn, storedSince, lastDirty, dirtyNow, dirtyLines}
-use Rattle.trm_core.specs.Cache.{Line, lineAt, holds, countDirty, Cache}
-use Rattle.trm_core.proofs.Laws.Cache.{holds-empty}
-use Rattle.trm_core.proofs.Laws.Dirty.{howMany-ext}
+use Rattle.trm_cache.specs.Cache.{Line, lineAt, holds, countDirty, Cache}
+use Rattle.trm_cache.proofs.Laws.Cache.{holds-empty}
+use Rattle.trm_cache.proofs.Laws.Dirty.{howMany-ext}
 
 -- the line holds what its accesses say
 pub record Judged (as′ : List Touch) (ln : Line) : Type 0 where

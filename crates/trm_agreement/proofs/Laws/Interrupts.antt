@@ -13,7 +13,7 @@ use Rattle.trm_reference.specs.Geometry.{Geometry}
 use Rattle.trm_reference.specs.Interrupt.{stalled, lineRaised, interruptChosen}
 use Rattle.trm_reference.specs.Trace.{Pins}
 use Rattle.trm_reference.specs.Reference.{Reference, referenceUnheld, referenceClock}
-use Rattle.trm_agreement.specs.Claims.{When, Rule, Taken, InterruptsHold}
+use Rattle.trm_agreement.specs.Plain.{When, Rule, Taken, InterruptsHold}
 
 rule-in-bits : (status line : ℕ) → Rule status line
 unfolding interruptChosen lineRaised

@@ -18,7 +18,7 @@ use Rattle.trm_reference.specs.Reference.{Reference, misses, evicts, charge, ca
 use Rattle.trm_reference.specs.Reference.{referenceUnheld, referenceClock, referenceReset}
 use Rattle.trm_agreement.specs.Ledger.{Did, waited, acknowledged, worked, finished, heldIn, chargesIn, spentIn, Took, due, did}
 use Rattle.trm_agreement.specs.Ledger.{ledgerFrom, longest}
-use Rattle.trm_agreement.specs.Claims.{Booked, LedgerKept, Bounded}
+use Rattle.trm_agreement.specs.Plain.{Booked, LedgerKept, Bounded}
 use Rattle.trm_agreement.proofs.Laws.Bounds.{charge-pos, charge-bounded}
 
 module _ (G : Geometry) (p : List ℕ) where

@@ -15,15 +15,15 @@ use Rattle.trm_reference.specs.Visible.{wordAt, cacheOn}
 use Rattle.trm_reference.specs.Access.{targetBlock, targetLine}
 use Rattle.trm_reference.specs.History.{since, lastIn, lastDirty, refillsNow, dirtyNow}
 use Rattle.trm_reference.specs.Reference.{Reference, carryOut, spend, takeOff, misses, evicts, refillOver, writebackOver}
-use Rattle.trm_core.specs.declared.record.Machine.{Machine}
+use Rattle.trm_core.specs.Record.{Machine}
 use Rattle.trm_core.specs.declared.record.Running.{Running}
-use Rattle.trm_core.specs.Cache.{Cache, lineAt, view, cleaned, writeWord}
+use Rattle.trm_cache.specs.Cache.{Cache, lineAt, view, cleaned, writeWord}
 use Rattle.trm_core.specs.Record.{visibleOf, cacheOf, whole, advanced}
 use Rattle.trm_core.specs.Clock.{moved, quiet, written}
 use Rattle.trm_core.proofs.Laws.Kind.{Kind, cached, clearing, kindOf, Is, is-of, isCached, isClearing}
-use Rattle.trm_core.proofs.Laws.Lines.{cleanLine, becomes-same, becomes-clean}
-use Rattle.trm_core.proofs.Laws.Cache.{dirty-full, Sane, sane-update}
-use Rattle.trm_core.proofs.Laws.Bursts.{Written, write-length, write-other, written-more, write-view, written-ok, writing-ok}
+use Rattle.trm_cache.proofs.Laws.Lines.{cleanLine, becomes-same, becomes-clean}
+use Rattle.trm_cache.proofs.Laws.Cache.{dirty-full, Sane, sane-update}
+use Rattle.trm_cache.proofs.Laws.Bursts.{Written, write-length, write-other, written-more, write-view, written-ok, writing-ok}
 use Rattle.trm_agreement.proofs.Laws.Relation.{Extra, plainOf, Common, Flight, Related, Agree}
 
 -- the record of a clock that carries nothing out

@@ -18,7 +18,7 @@ use Rattle.trm_reference.specs.Reference.{Reference, referenceClock, referenceR
 use Rattle.trm_reference.proofs.Laws.Trace.{clocks-append, endOf-append}
 use Rattle.trm_core.specs.Refusals.{programOk, countRow, clockRows, linesRefused, runRows}
 use Rattle.trm_core.specs.Run.{bytesOf, wordsOf}
-use Rattle.trm_agreement.specs.Log.{Entry, clocksOf, entries, calls, logOf, answersIn, returnsIn, fedOf, stateOf}
+use Rattle.trm_agreement.specs.Log.{Engine, Entry, clocksOf, entries, calls, logOf, answersIn, returnsIn, fedOf, stateOf}
 use Rattle.trm_agreement.specs.Calls.{Call, clockCall, runCall, feed, answer, Ended, numberOf, runEnds, Seen}
 use Rattle.trm_agreement.specs.Calls.{ownRows, referenceCode, referenceEngine}
 use Rattle.trm_agreement.specs.Claims.{All, NeverFive, CallsAreClocks}
@@ -52,18 +52,18 @@ number-is code (runCall lines inputs bytes words) outs = go (eqb code 0) refl
     go false e = refl
 
 -- clocks return nothing
-returns-entries : (G : Geometry) (p : List ℕ) (ts : List (After Reference Answer)) (es : List (Entry Answer Seen Ended))
-    → returnsIn (entries feed answer (referenceEngine G p) ts ++ es) ≡ returnsIn es
+pub returns-entries : {S : Type 0} (E : Engine S Pins Answer Seen Call) (ts : List (After S Answer)) (es : List (Entry Answer Seen Ended))
+    → returnsIn (entries feed answer E ts ++ es) ≡ returnsIn es
 unfolding entries returnsIn
-returns-entries G p [] es = refl
-returns-entries G p (t ∷ ts) es = returns-entries G p ts es
+returns-entries E [] es = refl
+returns-entries E (t ∷ ts) es = returns-entries E ts es
 
 returns-not-five : (G : Geometry) (p : List ℕ) (q : Reference) (cs : List Call)
     → All (λ a. numberOf a ≢ 5) (returnsIn (calls feed answer (referenceEngine G p) q cs))
 unfolding calls All returnsIn referenceEngine referenceCode
 returns-not-five G p q [] = tt
 returns-not-five G p q (c ∷ cs) =
-    rw (returns-entries G p (clocksOf feed answer (referenceEngine G p) q c))
+    rw (returns-entries (referenceEngine G p) (clocksOf feed answer (referenceEngine G p) q c))
     (here, returns-not-five G p (endOf q (clocksOf feed answer (referenceEngine G p) q c)) cs)
   where
     code : ℕ

@@ -15,14 +15,14 @@ use Rattle.trm_reference.specs.Visible.{wordAt, cacheOn}
 use Rattle.trm_reference.specs.Access.{targetBlock, targetLine}
 use Rattle.trm_reference.specs.History.{since, lastIn}
 use Rattle.trm_reference.specs.Reference.{spend, misses, evicts, writebackOver}
-use Rattle.trm_core.specs.declared.record.Machine.{Machine}
-use Rattle.trm_core.specs.Cache.{Cache, Line, lineAt, holds, filled, fillWord}
+use Rattle.trm_core.specs.Record.{Machine}
+use Rattle.trm_cache.specs.Cache.{Cache, Line, lineAt, holds, filled, fillWord}
 use Rattle.trm_core.specs.Record.{visibleOf, cacheOf, inPhase}
 use Rattle.trm_core.specs.Clock.{moved, quiet, filling, lineFor, hits}
 use Rattle.trm_core.proofs.Laws.Kind.{cached, kindOf, Is, is-of}
-use Rattle.trm_core.proofs.Laws.Lines.{fullLine, fillLine, Becomes, becomes-full, becomes-fill, becomes-then}
-use Rattle.trm_core.proofs.Laws.Cache.{LineOk, holds-yes, sane-update, clean-swap}
-use Rattle.trm_core.proofs.Laws.Bursts.{Filled, fill-full, fill-dirty, fill-wide, filled-more, filled-ok, filling-ok}
+use Rattle.trm_cache.proofs.Laws.Lines.{fullLine, fillLine, Becomes, becomes-full, becomes-fill, becomes-then}
+use Rattle.trm_cache.proofs.Laws.Cache.{LineOk, holds-yes, sane-update, clean-swap}
+use Rattle.trm_cache.proofs.Laws.Bursts.{Filled, fill-full, fill-dirty, fill-wide, filled-more, filled-ok, filling-ok}
 use Rattle.trm_core.proofs.Laws.Fit.{block-in, line-in}
 use Rattle.trm_core.proofs.Laws.Phases.{due-cached}
 use Rattle.trm_agreement.proofs.Laws.Relation.{Extra, plainOf, Common, MatchesBut, Agree, refill, last}

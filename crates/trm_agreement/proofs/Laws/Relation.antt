@@ -16,15 +16,15 @@ use Rattle.trm_reference.specs.Charge.{uncachedCharge}
 use Rattle.trm_reference.specs.Trace.{After}
 use Rattle.trm_reference.specs.Reference.{Reference}
 use Rattle.trm_reference.proofs.Laws.Execute.{Narrow}
-use Rattle.trm_core.specs.declared.record.Machine.{Machine}
+use Rattle.trm_core.specs.Record.{Machine}
 use Rattle.trm_core.specs.declared.record.Running.{Running}
-use Rattle.trm_core.specs.Cache.{lineAt, holds, view, countDirty, firstDirty, Cache}
+use Rattle.trm_cache.specs.Cache.{lineAt, holds, view, countDirty, firstDirty, Cache}
 use Rattle.trm_core.specs.Record.{Lent, visibleOf, cacheOf, stepping, inPhase}
 use Rattle.trm_core.specs.Rule.{dueOk}
 use Rattle.trm_core.proofs.Laws.Fit.{Fit}
 use Rattle.trm_core.proofs.Laws.Kind.{Kind, quick, second, longer, device, cached, uncached, clearing, kindOf}
-use Rattle.trm_core.proofs.Laws.Cache.{Sane}
-use Rattle.trm_core.proofs.Laws.Bursts.{Written, Filled}
+use Rattle.trm_cache.proofs.Laws.Cache.{Sane}
+use Rattle.trm_cache.proofs.Laws.Bursts.{Written, Filled}
 use Rattle.trm_agreement.proofs.Laws.History.{Judged, Matches}
 
 -- what the reference machine has beside the visible part and the counts

@@ -9,7 +9,7 @@ use lib.ListN.{length}
 use lib.Dec.{eqb}
 use borrow.Author.Tests.{eqb-true}
 use Rattle.trm_reference.specs.Trace.{After, clocks, endOf, outsOf}
-use Rattle.trm_agreement.specs.Log.{Engine, started, clocksOf, entries, calls, logOf}
+use Rattle.trm_agreement.specs.Log.{Engine, started, ended, clocksOf, entries, calls, logOf}
 
 -- two clocks that agree
 pub record Together {S S′ O : Type 0} (R : S → S′ → Type 0) (t : After S O) (u : After S′ O) : Type 0 where
@@ -60,7 +60,7 @@ module _ {S S′ I O W C A : Type 0} (feed : C → List I) (answer : ℕ → C �
   unfolding calls
   calls-alike x y [] r = refl
   calls-alike x y (c ∷ cs) r = ap₂ _++_ (call-alike x y c r .log)
-      (ap₂ _∷_ (rw (code x y c r, call-alike x y c r .outs))
+      (ap₂ _∷_ (ap₂ ended (seen 0 _ _ (call-alike x y c r .state)) (rw (code x y c r, call-alike x y c r .outs)))
       (calls-alike (endOf x (clocksOf feed answer E x c)) (endOf y (clocksOf feed answer E′ y c)) cs (call-alike x y c r .state)))
 
   pub log-alike : (x : S) (y : S′) (cs : List C) → R 0 x y → logOf feed answer E x cs ≡ logOf feed answer E′ y cs

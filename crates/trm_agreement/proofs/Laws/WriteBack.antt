@@ -17,17 +17,17 @@ use Rattle.trm_reference.specs.Visible.{wordAt, cacheOn}
 use Rattle.trm_reference.specs.Access.{targetBlock, targetLine}
 use Rattle.trm_reference.specs.History.{since, lastIn}
 use Rattle.trm_reference.specs.Reference.{spend, misses, evicts, refillOver}
-use Rattle.trm_core.specs.declared.record.Machine.{Machine}
-use Rattle.trm_core.specs.Cache.{Cache, Line, lineAt, holds, view, emptied, cleaned, writeWord, countDirty, firstDirty}
+use Rattle.trm_core.specs.Record.{Machine}
+use Rattle.trm_cache.specs.Cache.{Cache, Line, lineAt, holds, view, emptied, cleaned, writeWord, countDirty, firstDirty}
 use Rattle.trm_core.specs.Record.{visibleOf, cacheOf, inPhase}
 use Rattle.trm_core.specs.Clock.{moved, quiet, written, writing}
 use Rattle.trm_core.proofs.Laws.Kind.{cached, clearing, kindOf, Is, is-of}
-use Rattle.trm_core.proofs.Laws.Lines.{emptyLine, cleanLine, Becomes, becomes-clean, becomes-empty}
-use Rattle.trm_core.proofs.Laws.Cache.{dirty-full, LineOk, Sane, sane-update, clean-swap, emptied-ok}
-use Rattle.trm_core.proofs.Laws.Bursts.{Written, Filled, write-length, written-more}
+use Rattle.trm_cache.proofs.Laws.Lines.{emptyLine, cleanLine, Becomes, becomes-clean, becomes-empty}
+use Rattle.trm_cache.proofs.Laws.Cache.{dirty-full, LineOk, Sane, sane-update, clean-swap, emptied-ok}
+use Rattle.trm_cache.proofs.Laws.Bursts.{Written, Filled, write-length, written-more}
 use Rattle.trm_core.proofs.Laws.Fit.{line-in}
 use Rattle.trm_core.proofs.Laws.Phases.{due-clearing}
-use Rattle.trm_core.proofs.Laws.Dirty.{first-dirty, clean-one}
+use Rattle.trm_cache.proofs.Laws.Dirty.{first-dirty, clean-one}
 use Rattle.trm_agreement.proofs.Laws.History.{Matches}
 use Rattle.trm_agreement.proofs.Laws.Relation.{Extra, plainOf, Common, Agree, writeBack, clearingOff, refill, last}
 use Rattle.trm_agreement.proofs.Laws.Moves.{leaving, moved-agrees, common-move, related-by, wrote, wrote-last, misses-is}

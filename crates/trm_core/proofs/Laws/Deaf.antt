@@ -19,10 +19,10 @@ use Rattle.trm_reference.specs.Access.{Answer, targetBlock, targetLine, silent,
 use Rattle.trm_reference.specs.Execute.{execute}
 use Rattle.trm_reference.specs.Interrupt.{stalled, interruptChosen, interrupted}
 use Rattle.trm_reference.specs.Trace.{After}
-use Rattle.trm_core.specs.declared.record.Machine.{Machine}
+use Rattle.trm_core.specs.Record.{Machine}
 use Rattle.trm_core.specs.declared.record.Running.{Running}
 use Rattle.trm_core.specs.declared.record.Scalars.{Scalars}
-use Rattle.trm_core.specs.Cache.{Cache, lineAt, view, firstDirty}
+use Rattle.trm_cache.specs.Cache.{Cache, lineAt, view, firstDirty}
 use Rattle.trm_core.specs.Record.{Lent, gathered, visibleOf, cacheOf}
 use Rattle.trm_core.specs.Clock.{Moved, moved, hits, missing, firstClock, written, writing, filling, writeLine, carried, isLast}
 use Rattle.trm_core.specs.Clock.{finish, cacheAfter, storeAfter, advance, quiet, worked, unheld, heldClock, clockOf}

@@ -7,7 +7,7 @@ use mathlib.Core.Path.{_≡_, refl}
 use mathlib.Core.Bool.{Bool, true, false, cond, _&&_, _||_}
 use mathlib.Core.List.{List, [], _∷_}
 use lib.Dec.{eqb, leb, ltb}
-use borrow.Author.Tests.{eqb-true, ltb-true}
+use borrow.Author.Tests.{eqb-true, ltb-true, leb-true}
 use native.Mathlib.Omega.{arith}
 use native.Mathlib.Decide.{ℕ-discrete}
 use native.Mathlib.Nat.{mod-lt, div-lt-iff-lt-mul, div-add-mod', mul-le-mul-right}
@@ -50,6 +50,10 @@ member f n (k ∷ ks) e q = both (f k) (every f ks) (λ y b. go (eqb n k) refl y
 
 lengths : List ℕ
 lengths = 64 ∷ 128 ∷ 256 ∷ 512 ∷ 1024 ∷ 2048 ∷ 4096 ∷ 8192 ∷ 16384 ∷ 32768 ∷ []
+
+pub legal-small : (n : ℕ) → storeLengthOk n ≡ true → n ≤ 32768
+unfolding storeLengthOk oneOf lengths every
+legal-small n f = leb-true n 32768 (member (λ k. leb k 32768) n lengths f refl)
 
 pub record Fit (G : Geometry) (n : ℕ) : Type 0 where
   pub lpos : 0 < G .lines

@@ -19,17 +19,17 @@ use Rattle.trm_reference.specs.Access.{targetBlock, targetLine}
 use Rattle.trm_reference.specs.Charge.{missCharge}
 use Rattle.trm_core.specs.declared.record.Running.{Running}
 use Rattle.trm_core.specs.declared.record.Scalars.{Scalars}
-use Rattle.trm_core.specs.Cache.{Cache, Line, lineAt, emptied, cleaned, filled, writeWord, fillWord, countDirty, firstDirty}
+use Rattle.trm_cache.specs.Cache.{Cache, Line, lineAt, emptied, cleaned, filled, writeWord, fillWord, countDirty, firstDirty}
 use Rattle.trm_core.specs.Record.{inPhase}
 use Rattle.trm_core.specs.Clock.{Moved, moved, lineFor, hits, written, writing, filling, missing}
 use Rattle.trm_core.specs.Claims.{leftOf}
 use Rattle.trm_core.proofs.Laws.Fit.{Fit, block-in, line-in}
 use Rattle.trm_core.proofs.Laws.Kind.{cached, clearing, kindOf, is-of}
-use Rattle.trm_core.proofs.Laws.Lines.{emptyLine, cleanLine, fullLine, fillLine, Wide, Becomes, becomes-same, becomes-empty}
-use Rattle.trm_core.proofs.Laws.Lines.{becomes-clean, becomes-full, becomes-fill, becomes-then}
-use Rattle.trm_core.proofs.Laws.Cache.{holds-yes}
-use Rattle.trm_core.proofs.Laws.Bursts.{write-length, fill-full, fill-dirty, fill-block}
-use Rattle.trm_core.proofs.Laws.Dirty.{first-dirty, clean-one}
+use Rattle.trm_cache.proofs.Laws.Lines.{emptyLine, cleanLine, fullLine, fillLine, Wide, Becomes, becomes-same, becomes-empty}
+use Rattle.trm_cache.proofs.Laws.Lines.{becomes-clean, becomes-full, becomes-fill, becomes-then}
+use Rattle.trm_cache.proofs.Laws.Cache.{holds-yes}
+use Rattle.trm_cache.proofs.Laws.Bursts.{write-length, fill-full, fill-dirty, fill-block}
+use Rattle.trm_cache.proofs.Laws.Dirty.{first-dirty, clean-one}
 use Rattle.trm_core.proofs.Laws.Rule.{LineFits, Phase, writeBack, clearingOff, refill, due, Registers}
 use Rattle.trm_core.proofs.Laws.Phases.{times-pos, idle, due-clearing, due-cached, left-2-cached, left-2-clearing, left-3, left-5}
 

@@ -23,8 +23,8 @@ use Rattle.trm_reference.specs.Trace.{After}
 use Rattle.trm_reference.proofs.Laws.Execute.{Narrow, execute-narrow, execute-on, execute-regs, interrupted-narrow, interrupted-on}
 use Rattle.trm_reference.proofs.Laws.Execute.{interrupted-regs}
 use Rattle.trm_core.specs.declared.record.Running.{Running}
-use Rattle.trm_core.specs.declared.record.Machine.{Machine}
-use Rattle.trm_core.specs.Cache.{Cache, Line, lineAt, view, storedTo, allEmptied}
+use Rattle.trm_core.specs.Record.{Machine}
+use Rattle.trm_cache.specs.Cache.{Cache, Line, lineAt, view, storedTo, allEmptied}
 use Rattle.trm_core.specs.Record.{Lent, visibleOf, cacheOf}
 use Rattle.trm_core.specs.Clock.{Moved, moved, quiet, carried, lineFor, hits, isLast, cacheAfter, storeAfter, finish, advance}
 use Rattle.trm_core.specs.Clock.{heldClock, clockOf}
@@ -33,9 +33,9 @@ use Rattle.trm_core.specs.Refusals.{storeOk}
 use Rattle.trm_core.specs.Claims.{leftOf, acknowledges, Kept, RecordKept}
 use Rattle.trm_core.proofs.Laws.Fit.{Fit, line-in}
 use Rattle.trm_core.proofs.Laws.Kind.{cached, kindOf, kind-is, isCached, isClearing, cached-is}
-use Rattle.trm_core.proofs.Laws.Lines.{storeLine, Wide, Becomes, becomes-stored}
-use Rattle.trm_core.proofs.Laws.Cache.{holds-full}
-use Rattle.trm_core.proofs.Laws.Dirty.{emptyTo-wide, emptied-at}
+use Rattle.trm_cache.proofs.Laws.Lines.{storeLine, Wide, Becomes, becomes-stored}
+use Rattle.trm_cache.proofs.Laws.Cache.{holds-full}
+use Rattle.trm_cache.proofs.Laws.Dirty.{emptyTo-wide, emptied-at}
 use Rattle.trm_core.proofs.Laws.Deaf.{clocks-are-three}
 use Rattle.trm_core.proofs.Laws.Rule.{LineFits, CountsFit, Phase, ready, arithmetic, writeBack, clearingOff, refill, waiting, due}
 use Rattle.trm_core.proofs.Laws.Rule.{Valid, valid-ok}

@@ -18,7 +18,7 @@ use Rattle.trm_reference.specs.Access.{isLoad, isStore, targetBlock, targetLine
 use Rattle.trm_reference.specs.Charge.{isJump, takesBranch, missCharge, uncachedCharge}
 use Rattle.trm_core.specs.declared.record.Running.{Running}
 use Rattle.trm_core.specs.declared.record.Scalars.{Scalars}
-use Rattle.trm_core.specs.Cache.{Cache, countDirty, firstDirty}
+use Rattle.trm_cache.specs.Cache.{Cache, countDirty, firstDirty}
 use Rattle.trm_core.specs.Record.{stepping, inPhase}
 use Rattle.trm_core.specs.Clock.{moved, lineFor, hits, chargeHere, isLast, writing, filling, firstClock, writeLine, advance}
 use Rattle.trm_core.specs.Rule.{dueOk}

@@ -24,8 +24,8 @@ use Rattle.trm_reference.specs.History.{howMany}
 use Rattle.trm_reference.specs.Charge.{isStepped, isJump, takesBranch, throughCache, pastCache, turnsCacheOff, missCharge}
 use Rattle.trm_reference.specs.Charge.{uncachedCharge, chargeBy}
 use Rattle.trm_reference.specs.Trace.{pinsOf, clocks}
-use Rattle.trm_core.specs.Cache.{lineAt, holds, lineView, view, writeWord, fillWord, countDirty, lowest, firstDirty, emptyTo}
-use Rattle.trm_core.specs.Cache.{allEmptied}
+use Rattle.trm_cache.specs.Cache.{lineAt, holds, lineView, view, writeWord, fillWord, countDirty, lowest, firstDirty, emptyTo}
+use Rattle.trm_cache.specs.Cache.{allEmptied}
 use Rattle.trm_core.specs.Record.{productAt, remainderAt, quotientAt, resetOf}
 use Rattle.trm_core.specs.Clock.{lineFor, hits, chargeHere, isLast, cacheAfter, storeAfter, finish, written, writing, filling}
 use Rattle.trm_core.specs.Clock.{missing, firstClock, writeLine, advance, worked, unheld, heldClock, clockOf}
@@ -33,7 +33,7 @@ use Rattle.trm_core.specs.Rule.{widthsOk, countsOk, registersOk, arithme
 use Rattle.trm_core.specs.Rule.{lineOk, marksOk, allBelow, linesOk, recordOk}
 use Rattle.trm_core.specs.Refusals.{allAtMost, programOk, storeOk, recordRows, countRow, clockRows, linesRefused, runRows}
 use Rattle.trm_core.specs.Refusals.{resetRefusal, clockRefusal, runRefusal, lookRefusal, copyRefusal, watchRefusal}
-use Rattle.trm_core.specs.Observe.{below}
+use Rattle.trm_cache.specs.Cache.{below}
 use Rattle.trm_core.specs.Scenario.{program, spread, lineSpans, pins, firstStore, recordHistory}
 use Rattle.trm_core.specs.Refused.{clockedIn, scenarioAfter, total, Row, AllGive, rows}
 use Rattle.trm_core.specs.Claims.{RefusalsHold}

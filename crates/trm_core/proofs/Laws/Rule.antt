@@ -19,8 +19,8 @@ use Rattle.trm_reference.specs.Charge.{isStepped, throughCache, pastCache, turn
 use Rattle.trm_reference.proofs.Laws.Execute.{Narrow}
 use Rattle.trm_core.specs.declared.record.Counts.{Counts}
 use Rattle.trm_core.specs.declared.record.Running.{Running}
-use Rattle.trm_core.specs.declared.record.Machine.{Machine}
-use Rattle.trm_core.specs.Cache.{Cache, Line, lineAt, countDirty}
+use Rattle.trm_core.specs.Record.{Machine}
+use Rattle.trm_cache.specs.Cache.{Cache, Line, lineAt, countDirty}
 use Rattle.trm_core.specs.Record.{visibleOf, cacheOf, productAt, remainderAt, quotientAt}
 use Rattle.trm_core.specs.Clock.{lineFor, hits}
 use Rattle.trm_core.specs.Rule.{widthsOk, countsOk, registersOk, arithmeticOk, writebackOk, refillOk, waitOk, dueOk, phaseOk}
@@ -29,8 +29,8 @@ use Rattle.trm_core.specs.Claims.{Shaped}
 use Rattle.trm_core.proofs.Laws.Fit.{all-below, below-all, line-in}
 use Rattle.trm_core.proofs.Laws.Kind.{Kind, longer, cached, uncached, clearing, kindOf, Is, kind-is, isLonger, isCached}
 use Rattle.trm_core.proofs.Laws.Kind.{isUncached, isClearing, inMemory, waits-are, longer-is, cached-is, uncached-is, clearing-is}
-use Rattle.trm_core.proofs.Laws.Lines.{Wide}
-use Rattle.trm_core.proofs.Laws.Cache.{dirty-full}
+use Rattle.trm_cache.proofs.Laws.Lines.{Wide}
+use Rattle.trm_cache.proofs.Laws.Cache.{dirty-full}
 
 -- one line
 pub record LineFits (G : Geometry) (on : Bool) (n l : ℕ) (ln : Line) : Type 0 where
@@ -135,7 +135,7 @@ valid-ok G p n m pos x =
 
 -- the way back
 
-line-from : (G : Geometry) (on : Bool) (n l : ℕ) (ln : Line) → lineOk G on n l ln ≡ true → LineFits G on n l ln
+pub line-from : (G : Geometry) (on : Bool) (n l : ℕ) (ln : Line) → lineOk G on n l ln ≡ true → LineFits G on n l ln
 unfolding lineOk
 line-from G on n l ln t = go (ln .full) refl t
   where
@@ -158,7 +158,7 @@ line-from G on n l ln t = go (ln .full) refl t
       emptyZero = λ _. eqb-true (ln .block) 0 z;
     })
 
-widths-from : (v : Visible) → widthsOk v ≡ true → Narrow v
+pub widths-from : (v : Visible) → widthsOk v ≡ true → Narrow v
 unfolding widthsOk
 widths-from v = all3 (ltb (v .pc) 4096) (ltb (v .n) 2 && ltb (v .z) 2 && ltb (v .c) 2 && ltb (v .v) 2) (ltb (v .status) 16) (λ p f s.
     all4 (ltb (v .n) 2) (ltb (v .z) 2) (ltb (v .c) 2) (ltb (v .v) 2) (λ a b c d. record {
@@ -170,7 +170,7 @@ widths-from v = all3 (ltb (v .pc) 4096) (ltb (v .n) 2 && ltb (v .z) 2 && ltb (v 
       status = ltb-true (v .status) 16 s;
     }) f)
 
-counts-from : (k : Counts) → countsOk k ≡ true → CountsFit k
+pub counts-from : (k : Counts) → countsOk k ≡ true → CountsFit k
 unfolding countsOk
 counts-from k = all4 (ltb (k .clocks) (2 ^ 32)) (leb (k .held) (k .clocks)) (leb (k .refills) (k .clocks)) (leb (k .writebacks) (k .clocks))
     (λ a b c d. record {
@@ -180,7 +180,7 @@ counts-from k = all4 (ltb (k .clocks) (2 ^ 32)) (leb (k .held) (k .clocks)) (leb
       writebacks = leb-true (k .writebacks) (k .clocks) d;
     })
 
-registers-from : (w : ℕ) (r : Running) (v : Visible) → registersOk w r v ≡ true → Registers w r v
+pub registers-from : (w : ℕ) (r : Running) (v : Visible) → registersOk w r v ≡ true → Registers w r v
 unfolding registersOk
 registers-from w r v = all3 (eqb (r .product) p) (eqb (r .remainder) m) (eqb (r .quotient) q)
     (λ a b c. record {
@@ -216,7 +216,7 @@ write-from G w n k r v ca is ok ph = both (ltb (r .count) (burst G)) _ (λ h. go
     go false me hc = both (turnsCacheOff w v) (not (eqb (countDirty G ca) 0)) (λ o z. clearingOff
         (clearing-is k (sym (is .off) ∙ o)) ph hc (eqb-false (countDirty G ca) 0 (not-true (eqb (countDirty G ca) 0) z)))
 
-phase-from : (G : Geometry) (w n : ℕ) (k : Kind) (r : Running) (v : Visible) (ca : Cache) → Is k w v n
+pub phase-from : (G : Geometry) (w n : ℕ) (k : Kind) (r : Running) (v : Visible) (ca : Cache) → Is k w v n
     → LineFits G (cacheOn v) n (targetLine G w v n) (lineFor G w n v ca) → phaseOk G w n r v ca ≡ true → Phase G w n k r v ca
 unfolding phaseOk arithmeticOk refillOk waitOk
 phase-from G w n k r v ca is ok t = go (eqb (r .phase) 0) refl (eqb (r .phase) 1) refl (eqb (r .phase) 2) refl (eqb (r .phase) 3) refl

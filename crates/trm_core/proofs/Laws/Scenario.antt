@@ -27,12 +27,12 @@ use Rattle.trm_reference.specs.Trace.{pinsOf, clocks}
 use Rattle.trm_reference.specs.Reference.{referenceReset, misses, evicts, charge, refillOver, writebackOver, memoryAfter}
 use Rattle.trm_reference.specs.Reference.{historyAfter, carryOut, spend, takeOff, referenceHeld, referenceInterrupt}
 use Rattle.trm_reference.specs.Reference.{referenceUnheld, referenceClock}
-use Rattle.trm_core.specs.Cache.{lineAt, holds, lineView, view, writeWord, fillWord, countDirty, lowest, firstDirty, emptyTo}
-use Rattle.trm_core.specs.Cache.{allEmptied}
+use Rattle.trm_cache.specs.Cache.{lineAt, holds, lineView, view, writeWord, fillWord, countDirty, lowest, firstDirty, emptyTo}
+use Rattle.trm_cache.specs.Cache.{allEmptied}
 use Rattle.trm_core.specs.Record.{productAt, remainderAt, quotientAt, resetOf}
 use Rattle.trm_core.specs.Clock.{lineFor, hits, chargeHere, isLast, cacheAfter, storeAfter, finish, written, writing, filling}
 use Rattle.trm_core.specs.Clock.{missing, firstClock, writeLine, advance, worked, unheld, heldClock, clockOf}
-use Rattle.trm_core.specs.Observe.{below}
+use Rattle.trm_cache.specs.Cache.{below}
 use Rattle.trm_core.specs.Scenario.{program, spread, lineSpans, pins, firstStore, recordHistory, referenceHistory, mixed}
 use Rattle.trm_core.specs.Scenario.{seenNumbers, runningNumbers, countNumbers, answerNumbers, storeNumbers, machineNumbers}
 use Rattle.trm_core.specs.Scenario.{recordNumbers, referenceNumbers, recordDigest, referenceDigest, finishesOf, finishes}

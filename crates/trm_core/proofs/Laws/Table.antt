@@ -20,8 +20,8 @@ use Rattle.trm_reference.specs.Access.{isStore, targetLine}
 use Rattle.trm_reference.specs.Charge.{missCharge, uncachedCharge}
 use Rattle.trm_core.specs.declared.record.Running.{Running}
 use Rattle.trm_core.specs.declared.record.Scalars.{Scalars}
-use Rattle.trm_core.specs.declared.record.Machine.{Machine}
-use Rattle.trm_core.specs.Cache.{Cache, countDirty}
+use Rattle.trm_core.specs.Record.{Machine}
+use Rattle.trm_cache.specs.Cache.{Cache, countDirty}
 use Rattle.trm_core.specs.Record.{visibleOf, cacheOf, stepping, inPhase}
 use Rattle.trm_core.specs.Clock.{moved, quiet, lineFor, hits, chargeHere, isLast, finish, written, missing, firstClock, advance}
 use Rattle.trm_core.specs.Clock.{worked, clockOf}
@@ -30,7 +30,7 @@ use Rattle.trm_core.specs.Refusals.{programOk, storeOk, recordRows, coun
 use Rattle.trm_core.specs.Claims.{Shaped, leftOf, toCome, ClockTable}
 use Rattle.trm_core.proofs.Laws.Fit.{Fit, fit}
 use Rattle.trm_core.proofs.Laws.Kind.{Kind, quick, second, longer, device, cached, uncached, clearing, kindOf, is-of, chargeOfKind}
-use Rattle.trm_core.proofs.Laws.Lines.{Wide}
+use Rattle.trm_cache.proofs.Laws.Lines.{Wide}
 use Rattle.trm_core.proofs.Laws.Deaf.{answer-done, clocks-are-three}
 use Rattle.trm_core.proofs.Laws.Rule.{Phase, ready, arithmetic, writeBack, clearingOff, refill, waiting, due, Valid, valid-from}
 use Rattle.trm_core.proofs.Laws.Phases.{idle, due-second, due-device, due-cached, charge-is, left-0, left-1, left-2-cached}

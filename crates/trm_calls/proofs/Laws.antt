@@ -1,0 +1,4 @@
+-- The laws of the calls.
+-- Idea: by their definitions.
+-- Assumes nothing.
+pub mod Accepted

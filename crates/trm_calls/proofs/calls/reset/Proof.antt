@@ -1,0 +1,70 @@
+-- The proof of trm_calls::calls::reset.
+use borrow.Author.Tests.{not-true, not-false}
+use Rattle.trm_calls.specs.Outcome.{resetGives}
+use borrow.Author.Needs.{needs}
+use Rattle.trm_calls.proofs.calls.reset.Statement.{statement}
+use Rattle.trm_calls.proofs.calls.reset.Tie as tie
+use Rattle.trm_calls.proofs.calls.reset.Reads as reads
+use Rattle.trm_calls.proofs.calls.reset.Lts as lts
+use Rattle.trm_calls.proofs.calls.accepted.Reads as accepted-reads
+use Rattle.trm_calls.proofs.inner.start.zero_record.Reads as zero-record-reads
+use Rattle.trm_refusals.proofs.inner.calls.reset_refusal.Reads as reset-refusal-reads
+
+reset-refusal-requires : tie.Need-reset-refusal-requires
+reset-refusal-requires c κs = search needs
+
+accepted-requires : tie.Need-accepted-requires
+accepted-requires c κs = search needs
+
+sub-zero-record : tie.Need-sub-zero-record
+sub-zero-record c = search needs
+
+part-zero-record-start : tie.Need-part-zero-record-start
+part-zero-record-start c = search needs
+
+part-zero-record-end : tie.Need-part-zero-record-end
+part-zero-record-end c = search needs
+
+zero-record-requires : tie.Need-zero-record-requires
+zero-record-requires c κs = search needs
+
+returns : tie.Need-returns
+unfolding resetGives
+returns c = record {
+  number = c .before .before .before .before .reset-refusal .ensures;
+  machine = rw (
+    ← c .before .before .before .before .reset-refusal .ensures,
+    ← c .before .before .before .accepted .ensures,
+    not-true
+        (c .before .before .before .accepted .result) (c .before .before .if1 .taken),
+  ) (c .zero-record .ensures);
+}
+
+zero-record-requires-2 : tie.Need-zero-record-requires-2
+zero-record-requires-2 c κs = search needs
+
+returns-2 : tie.Need-returns-2
+unfolding resetGives
+returns-2 c = record {
+  number = c .before .before .before .reset-refusal .ensures;
+  machine = rw (
+    ← c .before .before .before .reset-refusal .ensures,
+    ← c .before .before .accepted .ensures,
+    not-false
+        (c .before .before .accepted .result) (c .before .if1 .left),
+  ) (c .zero-record2 .ensures);
+}
+
+pub reset-spec : {M : Type 1} → statement M
+reset-spec =
+    tie.close
+    (tie.spec
+    reset-refusal-requires
+    accepted-requires
+    sub-zero-record
+    part-zero-record-start
+    part-zero-record-end
+    zero-record-requires
+    returns
+    zero-record-requires-2
+    returns-2)

@@ -1,0 +1,18 @@
+-- The proof of trm_calls::inner::start::zero_record.
+use Rattle.trm_core.specs.Record.{resetOf}
+use borrow.Author.Needs.{needs}
+use Rattle.trm_calls.proofs.inner.start.zero_record.Statement.{statement}
+use Rattle.trm_calls.proofs.inner.start.zero_record.Tie as tie
+use Rattle.trm_calls.proofs.inner.start.zero_record.Reads as reads
+use Rattle.trm_calls.proofs.inner.start.zero_record.Lts as lts
+use Rattle.trm_calls.proofs.inner.start.zero_scalars.Reads as zero-scalars-reads
+
+zero-scalars-requires : tie.Need-zero-scalars-requires
+zero-scalars-requires c κs = search needs
+
+returns : tie.Need-returns
+unfolding resetOf
+returns c = rw (c .zero-scalars .ensures)
+
+pub zero-record-spec : {M : Type 1} → statement M
+zero-record-spec = tie.close (tie.spec zero-scalars-requires returns)

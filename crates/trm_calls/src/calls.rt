@@ -1,0 +1,167 @@
+// Reset, clock and run, for any caller and any input.
+// Paper: "Checks go down the table .. It returns the number only and writes nothing".
+// The refusal is told first; nothing is touched before it is known that there is none.
+ghost use mathlib.Core.Path.{_≡_};
+ghost use lib.Dec.{eqb};
+ghost use Rattle.trm_reference.specs.Geometry.{paperGeometry};
+ghost use Rattle.trm_core.specs.Refusals.{clockRefusal, runRefusal};
+ghost use Rattle.trm_refusals.specs.Numbers.{numberOf};
+ghost use Rattle.trm_engine.specs.Machine.{recordOf};
+ghost use Rattle.trm_calls.specs.Outcome.{ResetHolds, ClockHolds, RunHolds};
+use crate::answer::Clock;
+use crate::answer::Reset;
+use crate::answer::Run;
+use crate::inner::start;
+use trm_engine::machine::Machine;
+use trm_refusals::inner::calls;
+use trm_refusals::refusal::Refusal;
+
+// Whether the call is not refused.
+fn accepted(refused: Refusal) -> bool
+    ensures { λ r. ⌜ r ≡ eqb (numberOf refused) 0 ⌝ }
+{
+    match refused {
+        Refusal::Accepted => true,
+        Refusal::Program => false,
+        Refusal::Store => false,
+        Refusal::Record => false,
+        Refusal::Lines => false,
+        Refusal::Buffers => false,
+        Refusal::Clocks => false,
+        Refusal::Place => false,
+    }
+}
+
+// A record to begin with, for this store; the store is left as it is.
+pub fn reset(store: &[u32]) -> Reset
+    ensures { λ r. ⌜ ResetHolds (now (store .entry)) r ⌝ }
+{
+    let refused = calls::reset_refusal(store);
+    if !accepted(refused) {
+        let none = start::zero_record(&store[0..0]);
+        return Reset {
+            refused: refused,
+            machine: none,
+        };
+    }
+    let machine = start::zero_record(store);
+    Reset {
+        refused: refused,
+        machine: machine,
+    }
+}
+
+// The refusal of a clock call.
+fn clock_refused(m: Machine, program: &[u32], store: &[u32], line: u8) -> Refusal
+    ensures { λ r. ⌜ numberOf r ≡ clockRefusal paperGeometry (now (program .entry)) (recordOf m) (now (store .entry)) line ⌝ }
+{
+    let c = m.scalars;
+    let regs = m.regs;
+    let full = m.full;
+    let dirty = m.dirty;
+    let block = m.block;
+    let words = m.words;
+    calls::clock_refusal(
+        c,
+        program,
+        &regs,
+        &full,
+        &dirty,
+        &block,
+        &words,
+        store,
+        line,
+    )
+}
+
+// One clock.
+pub fn clock(m: Machine, program: &[u32], store: &mut [u32], line: u8, input: u32) -> Clock
+    ensures { λ r. ⌜ ClockHolds m (now (program .entry)) (now (store .entry)) line input r (now (store .exit)) ⌝ }
+{
+    let refused = clock_refused(m, program, store, line);
+    if !accepted(refused) {
+        return Clock {
+            refused: refused,
+            machine: m,
+            byte: 0,
+            word: 0,
+            finished: 0,
+        };
+    }
+    let t = m.clock(program, store, line, input);
+    let machine = t.machine;
+    Clock {
+        refused: refused,
+        machine: machine, // as the clock leaves it
+        byte: t.byte,
+        word: t.word,
+        finished: t.done,
+    }
+}
+
+// The refusal of a run.
+fn run_refused(
+    m: Machine,
+    program: &[u32],
+    store: &[u32],
+    lines: &[u8],
+    inputs: &[u32],
+    bytes: &[u8],
+    words: &[u32],
+) -> Refusal
+    ensures { λ r. ⌜ numberOf r ≡ runRefusal paperGeometry (now (program .entry)) (recordOf m) (now (store .entry)) (now (lines .entry))
+        (now (inputs .entry)) (now (bytes .entry)) (now (words .entry)) ⌝ }
+{
+    let c = m.scalars;
+    let regs = m.regs;
+    let full = m.full;
+    let dirty = m.dirty;
+    let block = m.block;
+    let cached = m.words;
+    calls::run_refusal(
+        c,
+        program,
+        &regs,
+        &full,
+        &dirty,
+        &block,
+        &cached,
+        store,
+        lines,
+        inputs,
+        bytes,
+        words,
+    )
+}
+
+// One clock for each line byte.
+pub fn run(
+    m: Machine,
+    program: &[u32],
+    store: &mut [u32],
+    lines: &[u8],
+    inputs: &[u32],
+    bytes: &mut [u8],
+    words: &mut [u32],
+) -> Run
+    ensures { λ r. ⌜ RunHolds m (now (program .entry)) (now (store .entry)) (now (lines .entry)) (now (inputs .entry)) (now (bytes .entry))
+        (now (words .entry)) r (now (store .exit)) (now (bytes .exit)) (now (words .exit)) ⌝ }
+{
+    let refused = run_refused(m, program, store, lines, inputs, bytes, words);
+    if !accepted(refused) {
+        return Run {
+            refused: refused,
+            machine: m,
+            used: 0,
+            finished: 0,
+        };
+    }
+    let f = m.run(program, store, lines, inputs, bytes, words);
+    let machine = f.machine;
+    Run {
+        refused: refused,
+        machine: machine,
+        used: lines.len() as u64,
+        finished: f.finished,
+    }
+}

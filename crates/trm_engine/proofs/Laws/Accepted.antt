@@ -1,0 +1,93 @@
+-- What a call that nothing refuses tells: each row's condition, row by row.
+-- Idea: a number of 0 is the last branch of the rows' tests.
+-- Assumes nothing.
+--   clock-accepted    run-accepted    clock-free   a clock is not refused
+use Prim.Native.Nat.{ℕ, _+_, _≤_, _<_}
+use mathlib.Core.Path.{_≡_, refl, sym, _∙_}
+use mathlib.Core.Bool.{Bool, true, false, cond, not, _||_}
+use mathlib.Core.List.{List}
+use lib.ListN.{length}
+use lib.Dec.{eqb, leb, ltb}
+use borrow.Author.Tests.{eqb-true, ltb-false, leb-false, le-ltb, not-true, not-false}
+use native.Mathlib.Omega.{arith}
+use Rattle.trm_laws.proofs.Tests.{both, clash}
+use Rattle.trm_word.specs.Address.{storeLengthOk}
+use Rattle.trm_reference.specs.Geometry.{paperGeometry}
+use Rattle.trm_core.specs.Record.{Machine, resetOf}
+use Rattle.trm_core.specs.Rule.{recordOk}
+use Rattle.trm_core.specs.Refusals.{allAtMost, programOk, storeOk, linesRefused, recordRows}
+use Rattle.trm_core.specs.Refusals.{countRow, clockRows, runRows, clockRefusal, runRefusal}
+
+-- rows 3, 4 and 5 passed
+pub record Passed (p : List ℕ) (m : Machine) (s : List ℕ) : Type 0 where
+  pub program : programOk p ≡ true
+  pub store : storeOk m s ≡ true
+  pub rule : recordOk paperGeometry p (length s) m ≡ true
+
+pub legal-of : (m : Machine) (s : List ℕ) → storeOk m s ≡ true → storeLengthOk (length s) ≡ true
+unfolding storeOk
+legal-of m s = both (storeLengthOk (length s)) (eqb (length s) (m .scalars .size)) (λ a b. a)
+
+rows-passed : (p : List ℕ) (m : Machine) (s : List ℕ) (rest : ℕ) → recordRows paperGeometry p m s rest ≡ 0 → Passed p m s × (rest ≡ 0)
+unfolding recordRows
+rows-passed p m s rest = go (programOk p) refl (storeOk m s) refl (recordOk paperGeometry p (length s) m) refl
+  where
+    go : (a : Bool) → programOk p ≡ a → (b : Bool) → storeOk m s ≡ b → (c : Bool) → recordOk paperGeometry p (length s) m ≡ c
+        → _≡_ {A = ℕ} (cond (not a) 3 (cond (not b) 4 (cond (not c) 5 rest))) 0 → Passed p m s × (rest ≡ 0)
+    go false x b y c z q = absurd (omega arith)
+    go true x false y c z q = absurd (omega arith)
+    go true x true y false z q = absurd (omega arith)
+    go true x true y true z q = (record { program = x; store = y; rule = z }, q)
+
+pub clock-passed : (p : List ℕ) (m : Machine) (s : List ℕ) (line : ℕ) → clockRefusal paperGeometry p m s line ≡ 0 → Passed p m s
+unfolding clockRefusal
+clock-passed p m s line q = rows-passed p m s (clockRows (m .scalars .counts .clocks) line) q .0
+
+-- the run's own rows
+pub record Runs (m : Machine) (lines inputs bytes words : List ℕ) : Type 0 where
+  pub fed : length lines ≡ length inputs
+  pub wide : length bytes ≡ length lines
+  pub broad : length words ≡ length lines
+  pub few : length lines ≤ 65536
+  pub low : allAtMost 7 lines ≡ true
+  pub room : m .scalars .counts .clocks + length lines ≤ 4294967295
+
+own-rows : (m : Machine) (lines inputs bytes words : List ℕ) → runRows (m .scalars .counts .clocks) lines inputs bytes words ≡ 0
+    → Runs m lines inputs bytes words
+unfolding runRows linesRefused countRow
+own-rows m lines inputs bytes words = go (eqb (length lines) (length inputs)) refl (ltb 65536 (length lines)) refl (allAtMost 7 lines) refl
+    (eqb (length bytes) (length lines)) refl (eqb (length words) (length lines)) refl
+    (ltb 4294967295 (m .scalars .counts .clocks + length lines)) refl
+  where
+    go : (a : Bool) → eqb (length lines) (length inputs) ≡ a → (b : Bool) → ltb 65536 (length lines) ≡ b
+        → (c : Bool) → allAtMost 7 lines ≡ c → (d : Bool) → eqb (length bytes) (length lines) ≡ d
+        → (e : Bool) → eqb (length words) (length lines) ≡ e → (f : Bool) → ltb 4294967295 (m .scalars .counts .clocks + length lines) ≡ f
+        → _≡_ {A = ℕ} (cond (not a || b || not c) 6 (cond (not d || not e) 7 (cond f 8 0))) 0 → Runs m lines inputs bytes words
+    go false x b y c z d u e v f t q = absurd (omega arith)
+    go true x true y c z d u e v f t q = absurd (omega arith)
+    go true x false y false z d u e v f t q = absurd (omega arith)
+    go true x false y true z false u e v f t q = absurd (omega arith)
+    go true x false y true z true u false v f t q = absurd (omega arith)
+    go true x false y true z true u true v true t q = absurd (omega arith)
+    go true x false y true z true u true v false t q = record {
+      fed = eqb-true (length lines) (length inputs) x;
+      wide = eqb-true (length bytes) (length lines) u;
+      broad = eqb-true (length words) (length lines) v;
+      few = ltb-false 65536 (length lines) y;
+      low = z;
+      room = ltb-false 4294967295 (m .scalars .counts .clocks + length lines) t;
+    }
+
+pub run-passed : (p : List ℕ) (m : Machine) (s lines inputs bytes words : List ℕ)
+    → runRefusal paperGeometry p m s lines inputs bytes words ≡ 0 → Passed p m s × Runs m lines inputs bytes words
+unfolding runRefusal
+run-passed p m s lines inputs bytes words q =
+    let a = rows-passed p m s (runRows (m .scalars .counts .clocks) lines inputs bytes words) q in
+    (a .0, own-rows m lines inputs bytes words (a .1))
+
+-- a clock of a run is not refused
+pub clock-free : (p : List ℕ) (m : Machine) (s : List ℕ) (line : ℕ) → Passed p m s → line ≤ 7
+    → m .scalars .counts .clocks + 1 ≤ 4294967295 → clockRefusal paperGeometry p m s line ≡ 0
+unfolding clockRefusal recordRows clockRows countRow
+clock-free p m s line a low room =
+    rw (a .program, a .store, a .rule, le-ltb 7 line low, le-ltb 4294967295 (m .scalars .counts .clocks + 1) room)

@@ -1,0 +1,85 @@
+-- Every clock adds one to the clock count, on any record, and carries out at most one word.
+-- Idea: each branch of the clock's definition ends in `advanced`, `ended` or `waited`.
+-- Assumes nothing.
+--   clock-adds    clock-done
+use Prim.Native.Nat.{ℕ, _+_, _≤_}
+use mathlib.Core.Path.{_≡_, refl}
+use mathlib.Core.Bool.{Bool, not, _&&_}
+use mathlib.Core.List.{List}
+use lib.ListN.{length}
+use lib.Dec.{eqb}
+use native.Mathlib.Omega.{arith}
+use Rattle.trm_laws.proofs.Tests.{chosen}
+use Rattle.trm_reference.specs.Geometry.{paperGeometry, burst}
+use Rattle.trm_reference.specs.Visible.{Visible, wordAt}
+use Rattle.trm_reference.specs.Access.{Answer, targetBlock, targetLine}
+use Rattle.trm_reference.specs.Interrupt.{stalled, interruptChosen}
+use Rattle.trm_reference.specs.Charge.{isStepped, throughCache, pastCache, turnsCacheOff}
+use Rattle.trm_reference.specs.Trace.{Pins, After}
+use Rattle.trm_cache.specs.Cache.{Cache, lineAt, cleaned, countDirty, firstDirty, writeWord}
+use Rattle.trm_core.specs.declared.record.Scalars.{Scalars}
+use Rattle.trm_core.specs.Record.{Machine, Lent, visibleOf, cacheOf}
+use Rattle.trm_core.specs.Clock.{Moved, hits, isLast, finish, written, writing}
+use Rattle.trm_core.specs.Clock.{filling, missing, firstClock, writeLine, advance, worked, unheld}
+use Rattle.trm_core.specs.Clock.{heldClock, clockOf}
+use Rattle.trm_core.proofs.Laws.Deaf.{answer-done}
+
+pub record Adds (c : Scalars) (t : Moved) : Type 0 where
+  pub adds : t .scalars .counts .clocks ≡ c .counts .clocks + 1
+
+written-adds : (clears : Bool) (l : ℕ) (c : Scalars) (ca : Cache) (s : List ℕ) → Adds c (written paperGeometry clears l c ca s)
+unfolding written
+written-adds clears l c ca s = chosen (Adds c) clears (record { adds = refl }) (record { adds = refl })
+
+writing-adds : (clears : Bool) (l k : ℕ) (c : Scalars) (ca : Cache) (s : List ℕ) → Adds c (writing paperGeometry clears l k c ca s)
+unfolding writing
+writing-adds clears l k c ca s = chosen (Adds c) (eqb (k + 1) (burst paperGeometry))
+    (written-adds clears l c (cleaned ca l) (writeWord paperGeometry (lineAt paperGeometry ca l) s k)) (record { adds = refl })
+
+filling-adds : (b l k : ℕ) (c : Scalars) (ca : Cache) (s : List ℕ) → Adds c (filling paperGeometry b l k c ca s)
+unfolding filling
+filling-adds b l k c ca s = chosen (Adds c) (eqb (k + 1) (burst paperGeometry)) (record { adds = refl }) (record { adds = refl })
+
+missing-adds : (l : ℕ) (c : Scalars) (ca : Cache) (s : List ℕ) → Adds c (missing paperGeometry l c ca s)
+unfolding missing
+missing-adds l c ca s = chosen (Adds c) (lineAt paperGeometry ca l .dirty) (record { adds = refl }) (record { adds = refl })
+
+first-adds : (w n : ℕ) (c : Scalars) (v : Visible) (ca : Cache) (s : List ℕ) → Adds c (firstClock paperGeometry w n c v ca s)
+unfolding firstClock
+first-adds w n c v ca s = chosen (Adds c) (isStepped w) (record { adds = refl })
+    (chosen (Adds c) (pastCache w v n) (record { adds = refl })
+    (chosen (Adds c) (turnsCacheOff w v) (writing-adds _ (firstDirty paperGeometry ca) 0 c ca s)
+    (chosen (Adds c) (throughCache w v n && not (hits paperGeometry w n v ca)) (missing-adds (targetLine paperGeometry w v n) c ca s)
+    (record { adds = refl }))))
+
+advance-adds : (w n : ℕ) (c : Scalars) (v : Visible) (ca : Cache) (s : List ℕ) → Adds c (advance paperGeometry w n c v ca s)
+unfolding advance
+advance-adds w n c v ca s = chosen (Adds c) (eqb (c .running .phase) 0) (first-adds w n c v ca s)
+    (chosen (Adds c) (eqb (c .running .phase) 1) (record { adds = refl })
+    (chosen (Adds c) (eqb (c .running .phase) 2)
+    (writing-adds (turnsCacheOff w v) (writeLine paperGeometry w n v ca) (c .running .count) c ca s)
+    (chosen (Adds c) (eqb (c .running .phase) 3)
+    (filling-adds (targetBlock paperGeometry w v n) (targetLine paperGeometry w v n) (c .running .count) c ca s)
+    (record { adds = refl }))))
+
+-- of the whole clock
+pub record Clocks (c : Scalars) (t : After Lent Answer) : Type 0 where
+  pub adds : t .state .machine .scalars .counts .clocks ≡ c .counts .clocks + 1
+  pub done : t .out .done ≤ 1
+
+worked-adds : (w n : ℕ) (m : Machine) (s : List ℕ) (i : ℕ) → Clocks (m .scalars) (worked paperGeometry w n m s i)
+unfolding worked finish
+worked-adds w n m s i = chosen (Clocks (m .scalars)) (isLast paperGeometry w n (m .scalars .running) (visibleOf m) (cacheOf m))
+    (record { adds = refl; done = omega (arith, answer-done w (visibleOf m) n i) })
+    (record { adds = advance-adds w n (m .scalars) (visibleOf m) (cacheOf m) s .adds; done = omega arith })
+
+pub clock-adds : (p : List ℕ) (x : Lent) (pins : Pins) → Clocks (x .machine .scalars) (clockOf paperGeometry p x pins)
+unfolding clockOf unheld heldClock
+clock-adds p x pins = let m = x .machine in
+    chosen (Clocks (m .scalars)) (stalled (pins .line)) (record { adds = refl; done = omega arith })
+    (chosen (Clocks (m .scalars)) (eqb (m .scalars .running .phase) 0 && not (eqb (interruptChosen (m .scalars .status) (pins .line)) 0))
+    (record { adds = refl; done = omega arith })
+    (worked-adds (wordAt p (m .scalars .pc)) (length (x .store)) m (x .store) (pins .input)))
+
+pub done-few : (p : List ℕ) (x : Lent) (pins : Pins) (t : After Lent Answer) → t ≡ clockOf paperGeometry p x pins → t .out .done ≤ 1
+done-few p x pins t e = rw e (clock-adds p x pins .done)

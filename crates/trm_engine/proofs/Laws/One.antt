@@ -1,0 +1,52 @@
+-- A clock is a run of one: the same refusals, and the same outcome.
+-- Idea: with one line byte every length of the run's rows computes.
+-- Assumes nothing.
+--   one-free    one-ran
+use Prim.Native.Nat.{ℕ, _+_}
+use mathlib.Core.Path.{_≡_, refl, sym, ap, _∙_}
+use mathlib.Core.Bool.{Bool, true, false, cond, not, _&&_}
+use mathlib.Core.List.{List, [], _∷_}
+use lib.ListN.{length, getD}
+use lib.Dec.{leb, ltb}
+use borrow.Author.Tests.{leb-true, leb-false, le-ltb, lt-ltb}
+use native.Mathlib.Omega.{arith}
+use Rattle.trm_reference.specs.Geometry.{paperGeometry}
+use Rattle.trm_reference.specs.Access.{Answer}
+use Rattle.trm_reference.specs.Trace.{Pins, pinsOf, After, clocks, endOf, outsOf, finishedIn}
+use Rattle.trm_core.specs.Record.{Machine, Lent}
+use Rattle.trm_core.specs.Clock.{clockOf}
+use Rattle.trm_core.specs.Refusals.{allAtMost, linesRefused, runRows, clockRows, recordRows, clockRefusal, runRefusal}
+use Rattle.trm_core.specs.Run.{bytesOf, wordsOf, historyOf, Ran, runOf}
+
+low : (line : ℕ) → not (leb line 7 && true) ≡ ltb 7 line
+low line = go (leb line 7) refl
+  where
+    go : (t : Bool) → leb line 7 ≡ t → not (t && true) ≡ ltb 7 line
+    go true e = sym (le-ltb 7 line (leb-true line 7 e))
+    go false e = sym (lt-ltb 7 line (leb-false line 7 e))
+
+pub one-free : (p : List ℕ) (m : Machine) (s : List ℕ) (line input b w : ℕ) → clockRefusal paperGeometry p m s line ≡ 0
+    → runRefusal paperGeometry p m s (line ∷ []) (input ∷ []) (b ∷ []) (w ∷ []) ≡ 0
+unfolding clockRefusal runRefusal runRows clockRows linesRefused allAtMost
+one-free p m s line input b w e = rw (low line) e
+
+pub one-ran : (p : List ℕ) (x : Lent) (line input : ℕ) (y : Lent) (f : ℕ) (bs ws : List ℕ)
+    → record { state = y; used = 1; finished = f; bytes = bs; words = ws } ≡ runOf paperGeometry p x (line ∷ []) (input ∷ [])
+    → record { state = y; out = record { byte = getD bs 0 0; word = getD ws 0 0; done = f } }
+    ≡ clockOf paperGeometry p x (record { line = line; input = input })
+unfolding runOf historyOf pinsOf clocks endOf outsOf finishedIn bytesOf wordsOf
+one-ran p x line input y f bs ws e =
+    let t = clockOf paperGeometry p x (record { line = line; input = input }) in
+    ap (λ (u : Ran). record {
+      state = u .state;
+      out = record {
+        byte = getD (u .bytes) 0 0;
+        word = getD
+            (u .words) 0 0;
+        done = u .finished;
+      };
+    }) e
+    ∙ ap (λ d. record { state = t .state; out = record { byte = t .out .byte; word = t .out .word; done = d } }) (zero-add (t .out .done))
+  where
+    zero-add : (d : ℕ) → d + 0 ≡ d
+    zero-add d = omega arith

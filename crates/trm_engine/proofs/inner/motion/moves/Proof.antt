@@ -1,0 +1,16 @@
+-- The proof of trm_engine::inner::motion::moves.
+use borrow.Author.Needs.{needs}
+use Rattle.trm_engine.proofs.inner.motion.moves.Statement.{statement}
+use Rattle.trm_engine.proofs.inner.motion.moves.Tie as tie
+use Rattle.trm_engine.proofs.inner.motion.moves.Reads as reads
+use Rattle.trm_engine.proofs.inner.motion.moves.Lts as lts
+use Rattle.trm_steps.proofs.inner.scalars.in_phase.Reads as in-phase-reads
+
+in-phase-requires : tie.Need-in-phase-requires
+in-phase-requires c κs = search needs
+
+returns : tie.Need-returns
+returns c = rw (c .in-phase .ensures)
+
+pub moves-spec : {M : Type 1} → statement M
+moves-spec = tie.close (tie.spec in-phase-requires returns)

@@ -1,0 +1,16 @@
+-- The proof of trm_engine::machine::Machine::acknowledge.
+use borrow.Author.Needs.{needs}
+use Rattle.trm_engine.proofs.machine.Machine.acknowledge.Statement.{statement}
+use Rattle.trm_engine.proofs.machine.Machine.acknowledge.Tie as tie
+use Rattle.trm_engine.proofs.machine.Machine.acknowledge.Reads as reads
+use Rattle.trm_engine.proofs.machine.Machine.acknowledge.Lts as lts
+use Rattle.trm_steps.proofs.inner.interrupt.take_interrupt.Reads as take-interrupt-reads
+
+take-interrupt-requires : tie.Need-take-interrupt-requires
+take-interrupt-requires c κs = search needs
+
+returns : tie.Need-returns
+returns c = let e = c .take-interrupt .ensures in rw (e .0, e .1)
+
+pub acknowledge-spec : {M : Type 1} → statement M
+acknowledge-spec = tie.close (tie.spec take-interrupt-requires returns)

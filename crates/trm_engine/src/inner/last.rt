@@ -1,0 +1,198 @@
+// A word's last clock: what it moves between memory and the registers, its answer, and the word carried out.
+// Paper: "What a programmer sees changes only in an instruction's last clock; a device is read or written only in that clock".
+// Memory is read before it is written, and the answer is made before the registers change.
+ghost use mathlib.Core.Path.{_≡_};
+ghost use mathlib.Core.Bool.{true, cond};
+ghost use lib.ListN.{length};
+ghost use Rattle.trm_word.specs.Fields.{operation};
+ghost use Rattle.trm_word.specs.Address.{storeLengthOk};
+ghost use Rattle.trm_word.specs.declared.inner.address.Place.the-variants.{Memory};
+ghost use Rattle.trm_reference.specs.Geometry.{paperGeometry};
+ghost use Rattle.trm_reference.specs.Access.{isLoad, placeOfWord, target, loaded};
+ghost use Rattle.trm_reference.specs.Charge.{turnsCacheOff};
+ghost use Rattle.trm_cache.specs.Cache.{cache, view, allEmptied};
+ghost use Rattle.trm_core.specs.Record.{gathered, whole};
+ghost use Rattle.trm_core.specs.Clock.{cacheAfter, storeAfter, finish};
+ghost use Rattle.trm_engine.specs.Machine.{made};
+ghost use Rattle.trm_plan.specs.Plan.{Good, Ended};
+use trm_cache::inner::lines;
+use trm_cache::inner::off;
+use trm_core::record::Scalars;
+use trm_reading::inner::answer;
+use trm_reading::inner::reading;
+use trm_word::inner::address::Place;
+
+// What a clock leaves beside the arrays: the answer, and 1 if a word was carried out.
+pub struct Clocked {
+    pub scalars: Scalars,
+    pub byte: u8,
+    pub word: u32,
+    pub done: u64,
+}
+
+// Turning the cache off empties all lines.
+fn clear_lines(
+    c: Scalars,
+    regs: &[u32; 16],
+    full: &mut [u8; 16],
+    dirty: &mut [u8; 16],
+    block: &mut [u16; 16],
+    words: &[u32; 128],
+    w: u32,
+)
+    ensures { λ _. ⌜ cache (now (full .exit)) (now (dirty .exit)) (now (block .exit)) (now (words .entry))
+        ≡ cond (turnsCacheOff w (gathered c (now (regs .entry))))
+        (allEmptied paperGeometry (cache (now (full .entry)) (now (dirty .entry)) (now (block .entry)) (now (words .entry))))
+        (cache (now (full .entry)) (now (dirty .entry)) (now (block .entry)) (now (words .entry))) ⌝ }
+{
+    if !reading::turns_cache_off(c, regs, w) {
+        return;
+    }
+    off::empty_all(full, dirty, block, words);
+}
+
+// The word that LD loads: of memory, or the clock's input word.
+fn load_word(
+    c: Scalars,
+    regs: &[u32; 16],
+    full: &[u8; 16],
+    dirty: &[u8; 16],
+    block: &[u16; 16],
+    words: &[u32; 128],
+    store: &[u32],
+    w: u32,
+    input: u32,
+) -> u32
+    requires { ⌜ storeLengthOk (length (now store)) ≡ true ⌝ }
+    ensures { λ r. ⌜ r ≡ loaded w (gathered c (now (regs .entry))) (length (now (store .entry))) input
+        (view paperGeometry (cache (now (full .entry)) (now (dirty .entry)) (now (block .entry)) (now (words .entry))) (now
+        (store .entry)) (target w (gathered c (now (regs .entry))) (length (now (store .entry))))) ⌝ }
+{
+    let place = reading::place_of_word(c, regs, w, store.len() as u64);
+    match place {
+        Place::Device(_) => input,
+        Place::Memory(a) => lines::peek(full, dirty, block, words, store, a as usize),
+    }
+}
+
+// ST to word a of memory, through the cache or past it.
+fn store_at(
+    c: Scalars,
+    regs: &[u32; 16],
+    full: &[u8; 16],
+    dirty: &mut [u8; 16],
+    block: &[u16; 16],
+    words: &mut [u32; 128],
+    store: &mut [u32],
+    w: u32,
+    a: u64,
+)
+    requires { ⌜ (operation w ≡ 13) × (storeLengthOk (length (now store)) ≡ true)
+        × (placeOfWord w (gathered c (now regs)) (length (now store)) ≡ Memory a) ⌝ }
+    ensures { λ _. ⌜ (cache (now (full .entry)) (now (dirty .exit)) (now (block .entry)) (now (words .exit))
+        ≡ cacheAfter paperGeometry w (length (now (store .entry))) (gathered c (now (regs .entry)))
+        (cache (now (full .entry)) (now (dirty .entry)) (now (block .entry)) (now (words .entry))))
+        × (now (store .exit) ≡ storeAfter paperGeometry w (length (now (store .entry))) (gathered c (now (regs .entry))) (now
+        (store .entry))) ⌝ }
+{
+    let x = reading::stored_word(c, regs, w);
+    let i = a as usize;
+    if reading::cache_on(c, regs) {
+        lines::store_to(full, dirty, block, words, i / 8 % 16, i % 8, x);
+        return;
+    }
+    store[i] = x;
+}
+
+// ST to memory; a device has its word by the answer.
+fn store_word(
+    c: Scalars,
+    regs: &[u32; 16],
+    full: &[u8; 16],
+    dirty: &mut [u8; 16],
+    block: &[u16; 16],
+    words: &mut [u32; 128],
+    store: &mut [u32],
+    w: u32,
+)
+    requires { ⌜ (operation w ≡ 13) × (storeLengthOk (length (now store)) ≡ true) ⌝ }
+    ensures { λ _. ⌜ (cache (now (full .entry)) (now (dirty .exit)) (now (block .entry)) (now (words .exit))
+        ≡ cacheAfter paperGeometry w (length (now (store .entry))) (gathered c (now (regs .entry)))
+        (cache (now (full .entry)) (now (dirty .entry)) (now (block .entry)) (now (words .entry))))
+        × (now (store .exit) ≡ storeAfter paperGeometry w (length (now (store .entry))) (gathered c (now (regs .entry))) (now
+        (store .entry))) ⌝ }
+{
+    let place = reading::place_of_word(c, regs, w, store.len() as u64);
+    match place {
+        Place::Device(_) => {}
+        Place::Memory(a) => store_at(c, regs, full, dirty, block, words, store, w, a),
+    }
+}
+
+// Memory and the cache after the word, and the word that LD loads.
+fn reach(
+    c: Scalars,
+    regs: &[u32; 16],
+    full: &mut [u8; 16],
+    dirty: &mut [u8; 16],
+    block: &mut [u16; 16],
+    words: &mut [u32; 128],
+    store: &mut [u32],
+    w: u32,
+    input: u32,
+) -> u32
+    requires { ⌜ storeLengthOk (length (now store)) ≡ true ⌝ }
+    ensures { λ r. ⌜ (cache (now (full .exit)) (now (dirty .exit)) (now (block .exit)) (now (words .exit))
+        ≡ cacheAfter paperGeometry w (length (now (store .entry))) (gathered c (now (regs .entry)))
+        (cache (now (full .entry)) (now (dirty .entry)) (now (block .entry)) (now (words .entry))))
+        × (now (store .exit) ≡ storeAfter paperGeometry w (length (now (store .entry))) (gathered c (now (regs .entry))) (now
+        (store .entry)))
+        × (isLoad w ≡ true → r ≡ loaded w (gathered c (now (regs .entry))) (length (now (store .entry))) input
+        (view paperGeometry (cache (now (full .entry)) (now (dirty .entry)) (now (block .entry)) (now (words .entry))) (now
+        (store .entry)) (target w (gathered c (now (regs .entry))) (length (now (store .entry)))))) ⌝ }
+{
+    let op = w / 0x4000 % 16;
+    match op {
+        11 => {
+            clear_lines(c, regs, full, dirty, block, words, w);
+            0
+        }
+        12 => load_word(c, regs, full, dirty, block, words, store, w, input),
+        13 => {
+            store_word(c, regs, full, dirty, block, words, store, w);
+            0
+        }
+        _ => 0,
+    }
+}
+
+// The word's last clock.
+pub fn last_clock(
+    c: Scalars,
+    regs: &mut [u32; 16],
+    full: &mut [u8; 16],
+    dirty: &mut [u8; 16],
+    block: &mut [u16; 16],
+    words: &mut [u32; 128],
+    store: &mut [u32],
+    w: u32,
+    input: u32,
+) -> Clocked
+    requires { ⌜ (Good w (length (now store)) c (now regs) (cache (now full) (now dirty) (now block) (now words))) × (Ended w c
+        (now regs)) ⌝ }
+    ensures { λ r. ⌜ made r (now (regs .exit)) (cache (now (full .exit)) (now (dirty .exit)) (now (block .exit)) (now (words .exit)))
+        (now (store .exit))
+        ≡ finish paperGeometry w (length (now (store .entry))) (whole c (now (regs .entry)) (cache (now (full .entry)) (now
+        (dirty .entry)) (now (block .entry)) (now (words .entry)))) (now (store .entry)) input ⌝ }
+{
+    let n = store.len() as u64;
+    let x = reach(c, regs, full, dirty, block, words, store, w, input);
+    let a = answer::answer(c, regs, w, n, input);
+    let after = trm_execute::inner::words::carry_out(c, regs, w, x);
+    Clocked {
+        scalars: after,
+        byte: a.byte,
+        word: a.word,
+        done: 1,
+    }
+}

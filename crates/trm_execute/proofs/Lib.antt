@@ -1,0 +1,3 @@
+-- The proofs of a word carried out: a file for each function.
+-- Nothing here need be read to know what is claimed.
+-- Assumes nothing.

@@ -1,0 +1,13 @@
+-- The proof of trm_execute::inner::words::go_to.
+use borrow.Author.Needs.{needs}
+use Rattle.trm_execute.proofs.inner.words.go_to.Statement.{statement}
+use Rattle.trm_execute.proofs.inner.words.go_to.Tie as tie
+
+settle-requires : tie.Need-settle-requires
+settle-requires c κs = search needs
+
+returns : tie.Need-returns
+returns c = rw (c .settle .ensures)
+
+pub go-to-spec : {M : Type 1} → statement M
+go-to-spec = tie.close (tie.spec settle-requires returns)

@@ -1,0 +1,17 @@
+-- The proof of trm_execute::inner::words::load.
+use Rattle.trm_core.proofs.Laws.Rule.{widths-from}
+use borrow.Author.Needs.{needs}
+use Rattle.trm_execute.proofs.inner.words.load.Statement.{statement}
+use Rattle.trm_execute.proofs.inner.words.load.Tie as tie
+
+next-pc-requires : tie.Need-next-pc-requires
+next-pc-requires c κs = widths-from _ (c .before .pre .0) .pc
+
+write-to-requires : tie.Need-write-to-requires
+write-to-requires c κs = search needs
+
+returns : tie.Need-returns
+returns c = (rw (← c .before .next-pc .ensures .0) (c .write-to .ensures .0), c .write-to .ensures .1)
+
+pub load-spec : {M : Type 1} → statement M
+load-spec = tie.close (tie.spec next-pc-requires write-to-requires returns)

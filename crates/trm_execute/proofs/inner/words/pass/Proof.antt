@@ -1,0 +1,17 @@
+-- The proof of trm_execute::inner::words::pass.
+use Rattle.trm_core.proofs.Laws.Rule.{widths-from}
+use borrow.Author.Needs.{needs}
+use Rattle.trm_execute.proofs.inner.words.pass.Statement.{statement}
+use Rattle.trm_execute.proofs.inner.words.pass.Tie as tie
+
+next-pc-requires : tie.Need-next-pc-requires
+next-pc-requires c κs = widths-from _ (c .pre .0) .pc
+
+go-to-requires : tie.Need-go-to-requires
+go-to-requires c κs = search needs
+
+returns : tie.Need-returns
+returns c = rw (← c .before .next-pc .ensures .0) (c .go-to .ensures)
+
+pub pass-spec : {M : Type 1} → statement M
+pass-spec = tie.close (tie.spec next-pc-requires go-to-requires returns)

@@ -1,0 +1,19 @@
+-- The proof of trm_execute::inner::words::set_status.
+use Rattle.trm_reference.specs.Execute.{statusSet}
+use Rattle.trm_core.proofs.Laws.Rule.{widths-from}
+use borrow.Author.Needs.{needs}
+use Rattle.trm_execute.proofs.inner.words.set_status.Statement.{statement}
+use Rattle.trm_execute.proofs.inner.words.set_status.Tie as tie
+
+next-pc-requires : tie.Need-next-pc-requires
+next-pc-requires c κs = widths-from _ (c .pre .0) .pc
+
+settle-requires : tie.Need-settle-requires
+settle-requires c κs = search needs
+
+returns : tie.Need-returns
+unfolding statusSet
+returns c = rw (c .settle .ensures, c .before .next-pc .ensures .0)
+
+pub set-status-spec : {M : Type 1} → statement M
+set-status-spec = tie.close (tie.spec next-pc-requires settle-requires returns)

@@ -1,0 +1,3 @@
+-- No definitions of its own: every contract cites those of the crates below.
+-- Paper: as those say.
+-- Assumes nothing.

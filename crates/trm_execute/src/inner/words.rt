@@ -1,0 +1,258 @@
+// A word carried out: the last clock of each of the sixteen operations.
+// Paper: "What a programmer sees", the list from 0 MOV to 15. MUL and DIV end from their registers after 32 steps.
+// One match on the operation; each arm gives the scalars after the clock and leaves the registers in the lent banks.
+ghost use mathlib.Core.Path.{_≡_};
+ghost use mathlib.Core.Bool.{true, cond};
+ghost use mathlib.Core.List.{[]};
+ghost use lib.ListN.{set};
+ghost use Prim.Native.Nat.{_<_};
+ghost use Rattle.trm_word.specs.Fields.{bit, destination};
+ghost use Rattle.trm_word.specs.Condition.{isSet};
+ghost use Rattle.trm_alu.specs.Multiply.{mulAfter};
+ghost use Rattle.trm_alu.specs.Divide.{divRem, divQuot};
+ghost use Rattle.trm_alu.specs.Results.{resultOf, highOf};
+ghost use Rattle.trm_reference.specs.Visible.{registerIndex, nextPc};
+ghost use Rattle.trm_reference.specs.Execute.{calculated, wentTo, wroteTo, statusSet, returned, jumped, branchTarget, branched, called};
+ghost use Rattle.trm_reference.specs.Execute.{execute};
+ghost use Rattle.trm_core.specs.Record.{gathered, ended, productAt, remainderAt, quotientAt};
+ghost use Rattle.trm_core.specs.Rule.{widthsOk, countsOk};
+use trm_core::record::Running;
+use trm_core::record::Scalars;
+
+// R.d and H after an operation 0 to 10.
+struct Outcome {
+    pub word: u32,
+    pub high: u32,
+}
+
+// PC + 1.
+fn next_pc(pc: u64) -> u64
+    requires { ⌜ pc < 4096 ⌝ }
+    ensures { λ r. ⌜ (r ≡ nextPc pc) × (r < 4096) ⌝ }
+{
+    (pc + 1) % 4096
+}
+
+// R.r := x.
+fn put_register(regs: &mut [u32; 16], status: u32, r: u32, x: u32)
+    requires { ⌜ r < 8 ⌝ }
+    ensures { λ _. ⌜ now (regs .exit) ≡ set (now (regs .entry)) (registerIndex status r) x ⌝ }
+{
+    let i = trm_reading::inner::reading::register_index(status, r);
+    regs[i] = x;
+}
+
+// Another PC.
+fn go_to(c: Scalars, pc: u64) -> Scalars
+    requires { ⌜ countsOk (c .counts) ≡ true ⌝ }
+    ensures { λ r. ⌜ r ≡ ended c (wentTo (gathered c []) pc) ⌝ }
+{
+    let mut next = trm_steps::inner::scalars::settle(c);
+    next.pc = pc;
+    next
+}
+
+// Another PC, and R.r := x.
+fn write_to(c: Scalars, regs: &mut [u32; 16], pc: u64, r: u32, x: u32) -> Scalars
+    requires { ⌜ (countsOk (c .counts) ≡ true) × (r < 8) ⌝ }
+    ensures { λ s. ⌜ (s ≡ ended c (wroteTo (gathered c (now (regs .entry))) pc r x))
+        × (now (regs .exit) ≡ wroteTo (gathered c (now (regs .entry))) pc r x .regs) ⌝ }
+{
+    put_register(regs, c.status, r, x);
+    go_to(c, pc)
+}
+
+// R.d and H: of 8 the two words of the product, of 9 quotient and remainder; H stays in every other operation.
+fn outcome_of(running: Running, op: u64, a: u32, b: u32, h: u32) -> Outcome
+    requires { ⌜ (op ≡ 8 → running .product ≡ mulAfter a b 32) × (op ≡ 9 → running .remainder ≡ divRem a b 32)
+        × (op ≡ 9 → running .quotient ≡ divQuot a b 32) ⌝ }
+    ensures { λ r. ⌜ r ≡ record { word = resultOf op a b; high = highOf op a b h } ⌝ }
+{
+    if op == 8 {
+        return Outcome {
+            word: (running.product % 0x1_0000_0000) as u32,
+            high: (running.product / 0x1_0000_0000) as u32,
+        };
+    }
+    if op == 9 {
+        let d = trm_alu::inner::divide::finish(running.remainder, running.quotient, a, b);
+        return Outcome {
+            word: d.quotient,
+            high: d.remainder,
+        };
+    }
+    let result = trm_alu::inner::bits::short_result(op, a, b);
+    Outcome {
+        word: result,
+        high: h,
+    }
+}
+
+// 0 to 10.
+fn calculate(c: Scalars, regs: &mut [u32; 16], w: u32) -> Scalars
+    requires { ⌜ (widthsOk (gathered c (now regs)) ≡ true) × (countsOk (c .counts) ≡ true)
+        × (c .running .product ≡ productAt w (gathered c (now regs)) 32)
+        × (c .running .remainder ≡ remainderAt w (gathered c (now regs)) 32)
+        × (c .running .quotient ≡ quotientAt w (gathered c (now regs)) 32) ⌝ }
+    ensures { λ r. ⌜ (r ≡ ended c (calculated w (gathered c (now (regs .entry)))))
+        × (now (regs .exit) ≡ calculated w (gathered c (now (regs .entry))) .regs) ⌝ }
+{
+    let op = (w / 0x4000 % 16) as u64;
+    let a = trm_reading::inner::reading::operand_a(c, regs, w);
+    let b = trm_reading::inner::reading::operand_b(c, regs, w);
+    let out = outcome_of(c.running, op, a, b, c.h);
+    let flags = trm_alu::inner::flags::flags_after(op, a, b, out.word, c.c, c.v);
+    put_register(regs, c.status, w / 0x800 % 8, out.word);
+    let pc = next_pc(c.pc);
+    let mut next = trm_steps::inner::scalars::settle(c);
+    next.pc = pc;
+    next.h = out.high;
+    next.n = flags.n;
+    next.z = flags.z;
+    next.c = flags.c;
+    next.v = flags.v;
+    next
+}
+
+// 11 with bit 10 clear.
+fn set_status(c: Scalars, w: u32) -> Scalars
+    requires { ⌜ (widthsOk (gathered c []) ≡ true) × (countsOk (c .counts) ≡ true) ⌝ }
+    ensures { λ r. ⌜ r ≡ ended c (statusSet w (gathered c [])) ⌝ }
+{
+    let pc = next_pc(c.pc);
+    let mut next = trm_steps::inner::scalars::settle(c);
+    next.pc = pc;
+    let status = w % 16;
+    next.status = status;
+    next
+}
+
+// RTI, from this word.
+fn return_from(c: Scalars, from: u32) -> Scalars
+    requires { ⌜ countsOk (c .counts) ≡ true ⌝ }
+    ensures { λ r. ⌜ r ≡ ended c (returned (gathered c []) from) ⌝ }
+{
+    let status = trm_steps::inner::interrupt::with_mode(0, c.status);
+    let mut next = trm_steps::inner::scalars::settle(c);
+    let pc = (from % 4096) as u64;
+    next.pc = pc;
+    let negative = (from / 0x8000_0000 % 2) as u64;
+    next.n = negative;
+    let zero = (from / 0x4000_0000 % 2) as u64;
+    next.z = zero;
+    let carry = (from / 0x2000_0000 % 2) as u64;
+    next.c = carry;
+    let overflow = (from / 0x1000_0000 % 2) as u64;
+    next.v = overflow;
+    next.status = status;
+    next
+}
+
+// 11 with bit 10 set: R.s is read before R.d is written.
+fn jump(c: Scalars, regs: &mut [u32; 16], w: u32) -> Scalars
+    requires { ⌜ (widthsOk (gathered c (now regs)) ≡ true) × (countsOk (c .counts) ≡ true) ⌝ }
+    ensures { λ r. ⌜ (r ≡ ended c (jumped w (gathered c (now (regs .entry)))))
+        × (now (regs .exit) ≡ jumped w (gathered c (now (regs .entry))) .regs) ⌝ }
+{
+    let from = trm_reading::inner::reading::register_at(c, regs, w % 8);
+    let form = w / 256 % 4;
+    if form == 0 {
+        return go_to(c, (from % 4096) as u64);
+    }
+    if form == 2 {
+        let link = next_pc(c.pc) as u32;
+        return write_to(c, regs, (from % 4096) as u64, w / 0x800 % 8, link);
+    }
+    return_from(c, from)
+}
+
+// 11.
+fn control(c: Scalars, regs: &mut [u32; 16], w: u32) -> Scalars
+    requires { ⌜ (widthsOk (gathered c (now regs)) ≡ true) × (countsOk (c .counts) ≡ true) ⌝ }
+    ensures { λ r. ⌜ (r ≡ ended c (cond (isSet (bit 10 w)) (jumped w (gathered c (now (regs .entry))))
+        (statusSet w (gathered c (now (regs .entry))))))
+        × (now (regs .exit) ≡ cond (isSet (bit 10 w)) (jumped w (gathered c (now (regs .entry))))
+        (statusSet w (gathered c (now (regs .entry)))) .regs) ⌝ }
+{
+    if w / 1024 % 2 == 1 {
+        return jump(c, regs, w);
+    }
+    set_status(c, w)
+}
+
+// 12 LD, of the word x.
+fn load(c: Scalars, regs: &mut [u32; 16], w: u32, x: u32) -> Scalars
+    requires { ⌜ (widthsOk (gathered c (now regs)) ≡ true) × (countsOk (c .counts) ≡ true) ⌝ }
+    ensures { λ r. ⌜ (r ≡ ended c (wroteTo (gathered c (now (regs .entry))) (nextPc (c .pc)) (destination w) x))
+        × (now (regs .exit) ≡ wroteTo (gathered c (now (regs .entry))) (nextPc (c .pc)) (destination w) x .regs) ⌝ }
+{
+    write_to(c, regs, next_pc(c.pc), w / 0x800 % 8, x)
+}
+
+// 13 ST: only PC changes here.
+fn pass(c: Scalars) -> Scalars
+    requires { ⌜ (widthsOk (gathered c []) ≡ true) × (countsOk (c .counts) ≡ true) ⌝ }
+    ensures { λ r. ⌜ r ≡ ended c (wentTo (gathered c []) (nextPc (c .pc))) ⌝ }
+{
+    go_to(c, next_pc(c.pc))
+}
+
+// Where a branch goes: from 512 on the ten bits are negative, which mod 4,096 is 3,072 more.
+fn branch_target(pc: u64, offset: u32) -> u64
+    requires { ⌜ pc < 4096 ⌝ }
+    ensures { λ r. ⌜ r ≡ branchTarget pc offset ⌝ }
+{
+    if offset < 512 {
+        return (pc + 1 + offset as u64) % 4096;
+    }
+    (pc + 1 + offset as u64 + 3072) % 4096
+}
+
+// PC after operation 14.
+fn branch_pc(c: Scalars, regs: &[u32; 16], w: u32) -> u64
+    requires { ⌜ widthsOk (gathered c (now regs)) ≡ true ⌝ }
+    ensures { λ r. ⌜ r ≡ branched w (gathered c (now (regs .entry))) .pc ⌝ }
+{
+    if trm_reading::inner::reading::branch_taken(c, regs, w) {
+        return branch_target(c.pc, w % 1024);
+    }
+    next_pc(c.pc)
+}
+
+// 14.
+fn branch(c: Scalars, regs: &[u32; 16], w: u32) -> Scalars
+    requires { ⌜ (widthsOk (gathered c (now regs)) ≡ true) × (countsOk (c .counts) ≡ true) ⌝ }
+    ensures { λ r. ⌜ r ≡ ended c (branched w (gathered c (now (regs .entry)))) ⌝ }
+{
+    go_to(c, branch_pc(c, regs, w))
+}
+
+// 15: R7 := PC + 1.
+fn call(c: Scalars, regs: &mut [u32; 16], w: u32) -> Scalars
+    requires { ⌜ (widthsOk (gathered c (now regs)) ≡ true) × (countsOk (c .counts) ≡ true) ⌝ }
+    ensures { λ r. ⌜ (r ≡ ended c (called w (gathered c (now (regs .entry)))))
+        × (now (regs .exit) ≡ called w (gathered c (now (regs .entry))) .regs) ⌝ }
+{
+    let link = next_pc(c.pc) as u32;
+    write_to(c, regs, (c.pc + 1 + (w % 4096) as u64) % 4096, 7, link)
+}
+
+// The last clock of the word w; x is the word that LD loads.
+pub fn carry_out(c: Scalars, regs: &mut [u32; 16], w: u32, x: u32) -> Scalars
+    requires { ⌜ (widthsOk (gathered c (now regs)) ≡ true) × (countsOk (c .counts) ≡ true)
+        × (c .running .product ≡ productAt w (gathered c (now regs)) 32)
+        × (c .running .remainder ≡ remainderAt w (gathered c (now regs)) 32)
+        × (c .running .quotient ≡ quotientAt w (gathered c (now regs)) 32) ⌝ }
+    ensures { λ r. ⌜ (r ≡ ended c (execute w (gathered c (now (regs .entry))) x))
+        × (now (regs .exit) ≡ execute w (gathered c (now (regs .entry))) x .regs) ⌝ }
+{
+    let op = w / 0x4000 % 16;
+    match op {
+        0..=10 => calculate(c, regs, w),
+        11 => control(c, regs, w),
+        12 => load(c, regs, w, x),
+        13 => pass(c),
+        14 => branch(c, regs, w),
+        _ => call(c, regs, w),
+    }
+}

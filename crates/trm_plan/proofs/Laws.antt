@@ -1,0 +1,6 @@
+-- The laws of the plan, one theme to a file.
+-- Idea: functions' proofs cite these and unfold nothing of the clock.
+-- Assumes nothing.
+pub mod Facts
+pub mod Kinds
+pub mod Plans

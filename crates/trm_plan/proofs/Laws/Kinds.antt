@@ -1,0 +1,116 @@
+-- A word's kind from what the code tests: its operation, bit 10, the place of its access, the cache bit.
+-- Idea: with the operation known every test of `kindOf` computes.
+-- Assumes nothing.
+use Prim.Native.Nat.{ℕ, _/_, _%_}
+use mathlib.Core.Path.{_≡_, refl}
+use mathlib.Core.Logic.{_≢_}
+use mathlib.Core.Bool.{Bool, true, false, _||_}
+use lib.Dec.{eqb}
+use borrow.Author.Tests.{eq-eqb, ne-eqb, eqb-true}
+use Rattle.trm_laws.proofs.Tests.{clash}
+use Rattle.trm_word.specs.Fields.{operation, bit}
+use Rattle.trm_word.specs.declared.inner.address.Place.the-variants.{Device, Memory}
+use Rattle.trm_reference.specs.Geometry.{paperGeometry, blockOf, lineOf}
+use Rattle.trm_reference.specs.Visible.{Visible, cacheOn}
+use Rattle.trm_reference.specs.Access.{isLoad, isStore, isAccess, isMemory, memoryIndex, placeOfWord, target, targetBlock, targetLine}
+use Rattle.trm_reference.specs.Execute.{branchTaken}
+use Rattle.trm_reference.specs.Charge.{isStepped, isJump, takesBranch, turnsCacheOff}
+use Rattle.trm_cache.specs.Cache.{Cache, lineAt, holds}
+use Rattle.trm_core.specs.Clock.{lineFor, hits}
+use Rattle.trm_core.proofs.Laws.Kind.{kindOf, quick, second, longer, device, cached, uncached, clearing}
+
+-- LD and ST
+pub load-access : (w : ℕ) → operation w ≡ 12 → isAccess w ≡ true
+unfolding isAccess isLoad
+load-access w o = rw o
+
+pub store-access : (w : ℕ) → operation w ≡ 13 → isAccess w ≡ true
+unfolding isAccess isLoad isStore
+store-access w o = rw o
+
+pub unstepped : (w : ℕ) → isAccess w ≡ true → isStepped w ≡ false
+unfolding isAccess isLoad isStore isStepped
+unstepped w t = go (eqb (operation w) 12) refl (eqb (operation w) 13) refl t
+  where
+    go : (a : Bool) → eqb (operation w) 12 ≡ a → (b : Bool) → eqb (operation w) 13 ≡ b → a || b ≡ true
+        → eqb (operation w) 8 || eqb (operation w) 9 ≡ false
+    go true p b q z = rw (eqb-true (operation w) 12 p)
+    go false p true q z = rw (eqb-true (operation w) 13 q)
+    go false p false q z = clash z
+
+module _ (w n : ℕ) (v : Visible) where
+  pub kind-mul : operation w ≡ 8 → kindOf w v n ≡ longer
+  unfolding kindOf isStepped
+  kind-mul o = rw o
+
+  pub kind-div : operation w ≡ 9 → kindOf w v n ≡ longer
+  unfolding kindOf isStepped
+  kind-div o = rw o
+
+  pub kind-jump : operation w ≡ 11 → bit 10 w ≡ 1 → kindOf w v n ≡ second
+  unfolding kindOf isStepped isAccess isLoad isStore turnsCacheOff takesBranch isJump
+  kind-jump o b = rw (o, b)
+
+  pub kind-clearing : operation w ≡ 11 → turnsCacheOff w v ≡ true → kindOf w v n ≡ clearing
+  unfolding kindOf isStepped isAccess isLoad isStore
+  kind-clearing o t = rw (o, t)
+
+  pub kind-status : operation w ≡ 11 → bit 10 w ≢ 1 → turnsCacheOff w v ≡ false → kindOf w v n ≡ quick
+  unfolding kindOf isStepped isAccess isLoad isStore takesBranch isJump
+  kind-status o b t = rw (t, o, ne-eqb (bit 10 w) 1 b)
+
+  pub kind-taken : operation w ≡ 14 → branchTaken w v ≡ true → kindOf w v n ≡ second
+  unfolding kindOf isStepped isAccess isLoad isStore turnsCacheOff takesBranch
+  kind-taken o t = rw (o, t)
+
+  pub kind-not-taken : operation w ≡ 14 → branchTaken w v ≡ false → kindOf w v n ≡ quick
+  unfolding kindOf isStepped isAccess isLoad isStore turnsCacheOff takesBranch isJump
+  kind-not-taken o t = rw (o, t)
+
+  pub kind-call : operation w ≡ 15 → kindOf w v n ≡ second
+  unfolding kindOf isStepped isAccess isLoad isStore turnsCacheOff takesBranch isJump
+  kind-call o = rw o
+
+  pub kind-other : operation w ≢ 8 → operation w ≢ 9 → operation w ≢ 11 → operation w ≢ 12 → operation w ≢ 13 → operation w ≢ 14
+      → operation w ≢ 15 → kindOf w v n ≡ quick
+  unfolding kindOf isStepped isAccess isLoad isStore turnsCacheOff takesBranch isJump
+  kind-other a b c d e f g = rw (
+    ne-eqb (operation w) 8 a,
+    ne-eqb (operation w) 9 b,
+    ne-eqb (operation w) 11 c,
+    ne-eqb (operation w) 12 d,
+    ne-eqb (operation w) 13 e,
+    ne-eqb (operation w) 14 f,
+    ne-eqb (operation w) 15 g,
+  )
+
+  module _ (t : isAccess w ≡ true) where
+    pub kind-device : (d : ℕ) → placeOfWord w v n ≡ Device d → kindOf w v n ≡ device
+    unfolding kindOf isMemory
+    kind-device d p = rw (unstepped w t, t, p)
+
+    pub kind-cached : (a : ℕ) → placeOfWord w v n ≡ Memory a → cacheOn v ≡ true → kindOf w v n ≡ cached
+    unfolding kindOf isMemory
+    kind-cached a p on = rw (unstepped w t, t, p, on)
+
+    pub kind-uncached : (a : ℕ) → placeOfWord w v n ≡ Memory a → cacheOn v ≡ false → kindOf w v n ≡ uncached
+    unfolding kindOf isMemory
+    kind-uncached a p off = rw (unstepped w t, t, p, off)
+
+  -- the block and the line of the access
+  pub line-at : targetLine paperGeometry w v n ≡ target w v n / 8 % 16
+  unfolding targetLine targetBlock lineOf blockOf
+  line-at = refl
+
+  pub block-at : targetBlock paperGeometry w v n ≡ target w v n / 8
+  unfolding targetBlock blockOf
+  block-at = refl
+
+  pub target-at : (a : ℕ) → placeOfWord w v n ≡ Memory a → target w v n ≡ a
+  unfolding target memoryIndex
+  target-at a p = rw p
+
+  pub hits-at : (ca : Cache) (a : ℕ) → placeOfWord w v n ≡ Memory a
+      → hits paperGeometry w n v ca ≡ holds (lineAt paperGeometry ca (a / 8 % 16)) (a / 8)
+  unfolding hits lineFor targetLine targetBlock lineOf blockOf target memoryIndex
+  hits-at ca a p = rw p

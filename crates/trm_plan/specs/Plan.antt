@@ -1,0 +1,74 @@
+-- What the clock's plan promises of the record: what each answer means for `isLast` and `advance` of the clocked machine.
+-- Paper: none; these are the terms of the inner functions' contracts. No claim rests on them.
+-- Assumes nothing.
+--   Good w n c rs ca    the record rule, for the word w        Plan a w n c rs ca   the clock's action is a
+use Prim.Native.Nat.{ℕ, _+_, _*_, _%_, _≤_, _<_}
+use mathlib.Core.Path.{_≡_}
+use mathlib.Core.Bool.{Bool, true, false}
+use mathlib.Core.List.{List}
+use Rattle.trm_word.specs.Address.{storeLengthOk}
+use Rattle.trm_reference.specs.Geometry.{paperGeometry}
+use Rattle.trm_reference.specs.Visible.{cacheOn}
+use Rattle.trm_cache.specs.Cache.{Cache, lineAt}
+use Rattle.trm_core.specs.declared.record.Scalars.{Scalars}
+use Rattle.trm_core.specs.Record.{gathered, productAt, remainderAt, quotientAt, stepping, inPhase}
+use Rattle.trm_core.specs.Clock.{Moved, moved, isLast, writing, filling, missing, advance}
+use Rattle.trm_core.specs.Rule.{widthsOk, countsOk, registersOk, phaseOk, linesOk}
+use Rattle.trm_steps.specs.Steps.{Steps}
+use Rattle.trm_plan.specs.declared.inner.plan.Action.{Action}
+use Rattle.trm_plan.specs.declared.inner.plan.Action.the-variants.{Finish, Step, Write, Fill, Miss, Wait, Due}
+
+-- row 5, for the word w and a store of the legal length n
+pub record Good (w n : ℕ) (c : Scalars) (rs : List ℕ) (ca : Cache) : Type 0 where
+  pub legal : storeLengthOk n ≡ true
+  pub widths : widthsOk (gathered c rs) ≡ true
+  pub phase : phaseOk paperGeometry w n (c .running) (gathered c rs) ca ≡ true
+  pub registers : registersOk w (c .running) (gathered c rs) ≡ true
+  pub counts : countsOk (c .counts) ≡ true
+  pub lines : linesOk paperGeometry (cacheOn (gathered c rs)) n ca ≡ true
+
+-- the registers are those after 32 steps, or the word has no steps and they are zero
+pub record Ended (w : ℕ) (c : Scalars) (rs : List ℕ) : Type 0 where
+  pub product : c .running .product ≡ productAt w (gathered c rs) 32
+  pub remainder : c .running .remainder ≡ remainderAt w (gathered c rs) 32
+  pub quotient : c .running .quotient ≡ quotientAt w (gathered c rs) 32
+
+-- the clock is not the last, and does f
+pub record Does (w n : ℕ) (c : Scalars) (rs : List ℕ) (ca : Cache) (f : List ℕ → Moved) : Type 0 where
+  pub more : isLast paperGeometry w n (c .running) (gathered c rs) ca ≡ false
+  pub does : (s : List ℕ) → advance paperGeometry w n c (gathered c rs) ca s ≡ f s
+
+pub record Writes (w n : ℕ) (c : Scalars) (rs : List ℕ) (ca : Cache) (clears : Bool) (l : ℕ) : Type 0 where
+  pub goes : Does w n c rs ca (writing paperGeometry clears l (c .running .count) c ca)
+  pub line : l < 16
+  pub few : c .running .count < 10
+  pub inside : lineAt paperGeometry ca l .block * 8 + 8 ≤ n
+
+pub record Fills (w n : ℕ) (c : Scalars) (rs : List ℕ) (ca : Cache) (b : ℕ) : Type 0 where
+  pub goes : Does w n c rs ca (filling paperGeometry b (b % 16) (c .running .count) c ca)
+  pub few : c .running .count < 10
+  pub inside : b * 8 + 8 ≤ n
+
+pub record Misses (w n : ℕ) (c : Scalars) (rs : List ℕ) (ca : Cache) (l : ℕ) : Type 0 where
+  pub goes : Does w n c rs ca (missing paperGeometry l c ca)
+  pub line : l < 16
+
+abbrev pub Plan : Action → ℕ → ℕ → Scalars → List ℕ → Cache → Type 0
+Plan Finish w n c rs ca = (isLast paperGeometry w n (c .running) (gathered c rs) ca ≡ true) × Ended w c rs
+Plan Step w n c rs ca =
+    Does w n c rs ca (λ s. moved c (stepping w (gathered c rs) (c .running .count + 1)) ca s 0 0) × Steps w (c .running) (gathered c rs)
+Plan (Write clears l) w n c rs ca = Writes w n c rs ca clears l
+Plan (Fill b) w n c rs ca = Fills w n c rs ca b
+Plan (Miss l) w n c rs ca = Misses w n c rs ca l
+Plan Wait w n c rs ca = Does w n c rs ca (λ s. moved c (inPhase 4 (c .running .count + 1)) ca s 0 0) × (c .running .count < 10)
+Plan Due w n c rs ca = Does w n c rs ca (λ s. moved c (inPhase 5 0) ca s 0 0)
+
+-- the action ends the word
+abbrev pub endsBy : Action → Bool
+endsBy Finish = true
+endsBy Step = false
+endsBy (Write clears l) = false
+endsBy (Fill b) = false
+endsBy (Miss l) = false
+endsBy Wait = false
+endsBy Due = false

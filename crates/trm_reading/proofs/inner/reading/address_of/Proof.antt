@@ -1,0 +1,27 @@
+-- The proof of trm_reading::inner::reading::address_of.
+use Rattle.trm_reference.specs.Access.{addressOf}
+use borrow.Author.Needs.{needs}
+use Rattle.trm_reading.proofs.inner.reading.address_of.Statement.{statement}
+use Rattle.trm_reading.proofs.inner.reading.address_of.Tie as tie
+use Rattle.trm_reading.proofs.inner.reading.address_of.Reads as reads
+use Rattle.trm_reading.proofs.inner.reading.address_of.Lts as lts
+use Rattle.trm_reading.proofs.inner.reading.register_at.Reads as register-at-reads
+use Rattle.trm_word.proofs.inner.address.base_of.Reads as base-of-reads
+use Rattle.trm_word.proofs.inner.address.effective_address.Reads as effective-address-reads
+
+register-at-requires : tie.Need-register-at-requires
+register-at-requires c κs = search needs
+
+base-of-requires : tie.Need-base-of-requires
+base-of-requires c κs = search needs
+
+effective-address-requires : tie.Need-effective-address-requires
+effective-address-requires c κs = search needs
+
+returns : tie.Need-returns
+unfolding addressOf
+returns c = rw (c .effective-address .ensures, c .before .base-of .ensures, c .before .before .register-at .ensures)
+
+pub address-of-spec : {M : Type 1} → statement M
+address-of-spec =
+    tie.close (tie.spec register-at-requires base-of-requires effective-address-requires returns)

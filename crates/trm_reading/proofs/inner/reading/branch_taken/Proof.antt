@@ -1,0 +1,21 @@
+-- The proof of trm_reading::inner::reading::branch_taken.
+use Rattle.trm_reference.specs.Execute.{branchTaken}
+use borrow.Author.Needs.{needs}
+use Rattle.trm_reading.proofs.inner.reading.branch_taken.Statement.{statement}
+use Rattle.trm_reading.proofs.inner.reading.branch_taken.Tie as tie
+use Rattle.trm_reading.proofs.inner.reading.branch_taken.Reads as reads
+use Rattle.trm_reading.proofs.inner.reading.branch_taken.Lts as lts
+use Rattle.trm_word.proofs.inner.condition.condition_holds.Reads as condition-holds-reads
+
+cast-condition-holds : tie.Need-cast-condition-holds
+cast-condition-holds c = search needs
+
+condition-holds-requires : tie.Need-condition-holds-requires
+condition-holds-requires c κs = search needs
+
+returns : tie.Need-returns
+unfolding branchTaken
+returns c = c .condition-holds .ensures
+
+pub branch-taken-spec : {M : Type 1} → statement M
+branch-taken-spec = tie.close (tie.spec cast-condition-holds condition-holds-requires returns)

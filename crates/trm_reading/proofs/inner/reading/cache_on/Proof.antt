@@ -1,0 +1,14 @@
+-- The proof of trm_reading::inner::reading::cache_on.
+use mathlib.Core.Path.{refl}
+use Rattle.trm_reference.specs.Visible.{cacheOn}
+use Rattle.trm_reading.proofs.inner.reading.cache_on.Statement.{statement}
+use Rattle.trm_reading.proofs.inner.reading.cache_on.Tie as tie
+use Rattle.trm_reading.proofs.inner.reading.cache_on.Reads as reads
+use Rattle.trm_reading.proofs.inner.reading.cache_on.Lts as lts
+
+returns : tie.Need-returns
+unfolding cacheOn
+returns c = refl
+
+pub cache-on-spec : {M : Type 1} → statement M
+cache-on-spec = tie.close (tie.spec returns)

@@ -1,0 +1,14 @@
+-- The proof of trm_reading::inner::reading::is_load.
+use mathlib.Core.Path.{refl}
+use Rattle.trm_reference.specs.Access.{isLoad}
+use Rattle.trm_reading.proofs.inner.reading.is_load.Statement.{statement}
+use Rattle.trm_reading.proofs.inner.reading.is_load.Tie as tie
+use Rattle.trm_reading.proofs.inner.reading.is_load.Reads as reads
+use Rattle.trm_reading.proofs.inner.reading.is_load.Lts as lts
+
+returns : tie.Need-returns
+unfolding isLoad
+returns c = refl
+
+pub is-load-spec : {M : Type 1} → statement M
+is-load-spec = tie.close (tie.spec returns)

@@ -1,0 +1,18 @@
+-- The proof of trm_reading::inner::reading::moves_high.
+use borrow.Author.Tests.{eq-eqb, ne-eqb}
+use Rattle.trm_reading.proofs.inner.reading.moves_high.Statement.{statement}
+use Rattle.trm_reading.proofs.inner.reading.moves_high.Tie as tie
+use Rattle.trm_reading.proofs.inner.reading.moves_high.Reads as reads
+use Rattle.trm_reading.proofs.inner.reading.moves_high.Lts as lts
+
+returns : tie.Need-returns
+returns c = rw (ne-eqb _ _ (c .if1 .taken))
+
+returns-2 : tie.Need-returns-2
+returns-2 c = rw (eq-eqb _ _ (c .before .if1 .left), ne-eqb _ _ (c .if2 .taken))
+
+returns-3 : tie.Need-returns-3
+returns-3 c = rw (eq-eqb _ _ (c .before .if1 .left), eq-eqb _ _ (c .if2 .left))
+
+pub moves-high-spec : {M : Type 1} → statement M
+moves-high-spec = tie.close (tie.spec returns returns-2 returns-3)

@@ -1,0 +1,18 @@
+-- The proof of trm_reading::inner::reading::operand_b.
+use Rattle.trm_reference.specs.Execute.{operandB}
+use borrow.Author.Needs.{needs}
+use Rattle.trm_reading.proofs.inner.reading.operand_b.Statement.{statement}
+use Rattle.trm_reading.proofs.inner.reading.operand_b.Tie as tie
+use Rattle.trm_reading.proofs.inner.reading.operand_b.Reads as reads
+use Rattle.trm_reading.proofs.inner.reading.operand_b.Lts as lts
+use Rattle.trm_reading.proofs.inner.reading.register_at.Reads as register-at-reads
+
+register-at-requires : tie.Need-register-at-requires
+register-at-requires c κs = search needs
+
+returns : tie.Need-returns
+unfolding operandB
+returns c = c .register-at .ensures
+
+pub operand-b-spec : {M : Type 1} → statement M
+operand-b-spec = tie.close (tie.spec register-at-requires returns)

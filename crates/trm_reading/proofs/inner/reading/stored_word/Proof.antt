@@ -1,0 +1,18 @@
+-- The proof of trm_reading::inner::reading::stored_word.
+use Rattle.trm_reference.specs.Access.{stored}
+use borrow.Author.Needs.{needs}
+use Rattle.trm_reading.proofs.inner.reading.stored_word.Statement.{statement}
+use Rattle.trm_reading.proofs.inner.reading.stored_word.Tie as tie
+use Rattle.trm_reading.proofs.inner.reading.stored_word.Reads as reads
+use Rattle.trm_reading.proofs.inner.reading.stored_word.Lts as lts
+use Rattle.trm_reading.proofs.inner.reading.register_at.Reads as register-at-reads
+
+register-at-requires : tie.Need-register-at-requires
+register-at-requires c κs = search needs
+
+returns : tie.Need-returns
+unfolding stored
+returns c = c .register-at .ensures
+
+pub stored-word-spec : {M : Type 1} → statement M
+stored-word-spec = tie.close (tie.spec register-at-requires returns)

@@ -1,0 +1,82 @@
+-- Laws of the test that runs over a list, and what a passed row gives.
+-- Idea: a list from place i on is its number there, then the rest; the rest by cases on the Bool.
+-- Assumes nothing.
+use Prim.Native.Nat.{ℕ, zero, suc, _+_, _^_, _≤_, _<_}
+use mathlib.Core.Path.{_≡_, refl, sym, _∙_}
+use mathlib.Core.Bool.{Bool, true, false, not, _&&_, _||_}
+use mathlib.Core.List.{List, [], _∷_}
+use native.Mathlib.Numerals.{add-one}
+use native.Mathlib.Omega.{arith}
+use native.Mathlib.Decide.{ℕ-discrete}
+use borrow.Author.Tests.{le-leb, lt-leb, leb-true, ltb-true, ltb-false}
+use lib.ListN.{length, getD, drop, drop-of-length-le}
+use lib.Seq.{drop-cons}
+use lib.Dec.{eqb, leb, ltb}
+use Rattle.trm_laws.proofs.Tests.{clash, both, all3, all4, test-at}
+use Rattle.trm_word.specs.Address.{storeLengthOk}
+use Rattle.trm_reference.specs.Geometry.{paperGeometry}
+use Rattle.trm_reference.specs.Visible.{Visible, cacheOn, wordAt}
+use Rattle.trm_reference.specs.Charge.{isStepped}
+use Rattle.trm_cache.specs.Cache.{Cache, lineAt}
+use Rattle.trm_core.specs.declared.record.Counts.{Counts}
+use Rattle.trm_core.specs.declared.record.Running.{Running}
+use Rattle.trm_core.specs.Record.{Machine, visibleOf, cacheOf}
+use Rattle.trm_core.specs.Rule.{allBelow, marksOk, lineOk, widthsOk, phaseOk, arithmeticOk, registersOk, countsOk, linesOk, recordOk}
+use Rattle.trm_core.specs.Refusals.{allAtMost, linesRefused}
+
+all-cons : (limit x : ℕ) (xs : List ℕ) → allAtMost limit (x ∷ xs) ≡ (leb x limit && allAtMost limit xs)
+unfolding allAtMost
+all-cons limit x xs = refl
+
+all-nil : (limit : ℕ) → allAtMost limit [] ≡ true
+unfolding allAtMost
+all-nil limit = refl
+
+-- a number in the limit is passed by
+pub all-more : (limit : ℕ) (xs : List ℕ) (i : ℕ) → i < length xs → getD xs i 0 ≤ limit
+    → allAtMost limit (drop i xs) ≡ allAtMost limit (drop (i + 1) xs)
+all-more limit xs i h l = rw (drop-cons xs i 0 h, all-cons, le-leb _ _ l, add-one)
+
+-- one above it decides
+pub all-bad : (limit : ℕ) (xs : List ℕ) (i : ℕ) → i < length xs → limit < getD xs i 0 → allAtMost limit (drop i xs) ≡ false
+all-bad limit xs i h l = rw (drop-cons xs i 0 h, all-cons, lt-leb _ _ l)
+
+-- past the end none is left
+pub all-end : (limit : ℕ) (xs : List ℕ) (i : ℕ) → length xs ≤ i → allAtMost limit (drop i xs) ≡ true
+all-end limit xs i h = rw (drop-of-length-le xs h) (all-nil limit)
+
+fourth : (a b c d e : Bool) → a && b && c && d && e ≡ true → d ≡ true
+fourth a b c d e t = both (a && b && c && d) e (λ q _. both (a && b && c) d (λ _ r. r) q) t
+
+passed-counts : (k : Counts) → countsOk k ≡ true → k .clocks < 2 ^ 32
+unfolding countsOk
+passed-counts k t =
+    all4 (ltb (k .clocks) (2 ^ 32)) (leb (k .held) (k .clocks)) (leb (k .refills) (k .clocks)) (leb (k .writebacks) (k .clocks))
+    (λ x _ _ _. ltb-true (k .clocks) (2 ^ 32) x) t
+
+-- a store that passes has a legal length
+pub passed-store : (n size : ℕ) → (storeLengthOk n && eqb n size) ≡ true → storeLengthOk n ≡ true
+passed-store n size t = both (storeLengthOk n) (eqb n size) (λ p _. p) t
+
+-- a record that passes has a clock count of 32 bits
+pub passed-clocks : (p : List ℕ) (n : ℕ) (m : Machine) → recordOk paperGeometry p n m ≡ true → m .scalars .counts .clocks < 2 ^ 32
+unfolding recordOk
+passed-clocks p n m t =
+    passed-counts (m .scalars .counts)
+    (fourth
+    (widthsOk (visibleOf m))
+    (phaseOk paperGeometry (wordAt p (m .scalars .pc)) n (m .scalars .running) (visibleOf m) (cacheOf m))
+    (registersOk (wordAt p (m .scalars .pc)) (m .scalars .running) (visibleOf m))
+    (countsOk (m .scalars .counts))
+    (linesOk paperGeometry (cacheOn (visibleOf m)) n (cacheOf m))
+    t)
+
+-- a run that passes has at most 65,536 clocks
+pub passed-length : (lines inputs : List ℕ) → linesRefused lines inputs ≡ false → length lines < 2 ^ 32
+unfolding linesRefused
+passed-length lines inputs t = go (eqb (length lines) (length inputs)) (ltb 65536 (length lines)) refl (not (allAtMost 7 lines)) t
+  where
+    go : (a b : Bool) → ltb 65536 (length lines) ≡ b → (d : Bool) → (not a || b || d) ≡ false → length lines < 2 ^ 32
+    go true true q d e = clash (sym e)
+    go true false q d e = let h : length lines ≤ 65536 = ltb-false 65536 (length lines) q in omega (arith, h)
+    go false b q d e = clash (sym e)

@@ -1,0 +1,112 @@
+// The table for each call: reset, one clock, a run.
+// Paper: "Checks go down the table; a call skips rows about things it does not take."
+// One test for each row, in the table's order.
+ghost use mathlib.Core.Path.{_≡_};
+ghost use Rattle.trm_reference.specs.Geometry.{paperGeometry};
+ghost use Rattle.trm_cache.specs.Cache.{cache};
+ghost use Rattle.trm_core.specs.Record.{whole};
+ghost use Rattle.trm_core.specs.Refusals.{resetRefusal, clockRefusal, runRefusal};
+ghost use Rattle.trm_refusals.specs.Numbers.{numberOf};
+use crate::refusal::Refusal;
+use trm_core::record::Scalars;
+
+// Reset takes the store alone.
+pub fn reset_refusal(store: &[u32]) -> Refusal
+    ensures { λ r. ⌜ numberOf r ≡ resetRefusal (now (store .entry)) ⌝ }
+{
+    if trm_word::inner::address::store_length_ok(store.len() as u64) {
+        return Refusal::Accepted;
+    }
+    Refusal::Store
+}
+
+// One clock.
+pub fn clock_refusal(
+    c: Scalars,
+    program: &[u32],
+    regs: &[u32; 16],
+    full: &[u8; 16],
+    dirty: &[u8; 16],
+    block: &[u16; 16],
+    words: &[u32; 128],
+    store: &[u32],
+    line: u8,
+) -> Refusal
+    ensures { λ r. ⌜ numberOf r ≡ clockRefusal paperGeometry (now (program .entry)) (whole c (now (regs .entry))
+        (cache (now (full .entry)) (now (dirty .entry)) (now (block .entry)) (now (words .entry)))) (now (store .entry)) line ⌝ }
+{
+    if !super::rows::program_ok(program) {
+        return Refusal::Program;
+    }
+    if !super::rows::store_ok(c.size, store) {
+        return Refusal::Store; // of a clock
+    }
+    if !trm_rule::inner::record::record_ok(
+        c,
+        program,
+        regs,
+        full,
+        dirty,
+        block,
+        words,
+        store.len() as u64,
+    ) {
+        return Refusal::Record;
+    }
+    if line > 7 {
+        return Refusal::Lines;
+    }
+    if super::rows::clocks_refused(c.counts.clocks, 1) {
+        return Refusal::Clocks;
+    }
+    Refusal::Accepted
+}
+
+// A run: a line byte and an input word for each clock, and two buffers for what the clocks answer.
+pub fn run_refusal(
+    c: Scalars,
+    program: &[u32],
+    regs: &[u32; 16],
+    full: &[u8; 16],
+    dirty: &[u8; 16],
+    block: &[u16; 16],
+    words: &[u32; 128],
+    store: &[u32],
+    lines: &[u8],
+    inputs: &[u32],
+    bytes: &[u8],
+    outs: &[u32],
+) -> Refusal
+    ensures { λ r. ⌜ numberOf r ≡ runRefusal paperGeometry (now (program .entry)) (whole c (now (regs .entry))
+        (cache (now (full .entry)) (now (dirty .entry)) (now (block .entry)) (now (words .entry))))
+        (now (store .entry)) (now (lines .entry)) (now (inputs .entry)) (now (bytes .entry)) (now (outs .entry)) ⌝ }
+{
+    if !super::rows::program_ok(program) {
+        return Refusal::Program;
+    }
+    if !super::rows::store_ok(c.size, store) {
+        return Refusal::Store;
+    }
+    if !trm_rule::inner::record::record_ok(
+        c,
+        program,
+        regs,
+        full,
+        dirty,
+        block,
+        words,
+        store.len() as u64,
+    ) {
+        return Refusal::Record;
+    }
+    if super::rows::lines_refused(lines, inputs) {
+        return Refusal::Lines;
+    }
+    if super::rows::buffers_refused(lines, bytes, outs) {
+        return Refusal::Buffers;
+    }
+    if super::rows::clocks_refused(c.counts.clocks, lines.len() as u64) {
+        return Refusal::Clocks;
+    }
+    Refusal::Accepted
+}
