@@ -32,7 +32,7 @@ def files(pattern):
 
 def hidden(path):
     parts = path.relative_to(ROOT).parts
-    return parts[0] in ('target', '.git') or '__pycache__' in parts
+    return 'target' in parts or parts[0] == '.git' or '__pycache__' in parts
 
 
 def blank(piece):

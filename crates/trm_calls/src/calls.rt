@@ -2,7 +2,6 @@
 // Paper: "Checks go down the table .. It returns the number only and writes nothing".
 // The refusal is told first; nothing is touched before it is known that there is none.
 ghost use mathlib.Core.Path.{_≡_};
-ghost use lib.Dec.{eqb};
 ghost use Rattle.trm_reference.specs.Geometry.{paperGeometry};
 ghost use Rattle.trm_core.specs.Refusals.{clockRefusal, runRefusal};
 ghost use Rattle.trm_refusals.specs.Numbers.{numberOf};
@@ -14,30 +13,15 @@ use crate::answer::Run;
 use crate::inner::start;
 use trm_engine::machine::Machine;
 use trm_refusals::inner::calls;
+use trm_refusals::inner::record;
 use trm_refusals::refusal::Refusal;
-
-// Whether the call is not refused.
-fn accepted(refused: Refusal) -> bool
-    ensures { λ r. ⌜ r ≡ eqb (numberOf refused) 0 ⌝ }
-{
-    match refused {
-        Refusal::Accepted => true,
-        Refusal::Program => false,
-        Refusal::Store => false,
-        Refusal::Record => false,
-        Refusal::Lines => false,
-        Refusal::Buffers => false,
-        Refusal::Clocks => false,
-        Refusal::Place => false,
-    }
-}
 
 // A record to begin with, for this store; the store is left as it is.
 pub fn reset(store: &[u32]) -> Reset
     ensures { λ r. ⌜ ResetHolds (now (store .entry)) r ⌝ }
 {
     let refused = calls::reset_refusal(store);
-    if !accepted(refused) {
+    if !record::accepted(refused) {
         let none = start::zero_record(&store[0..0]);
         return Reset {
             refused: refused,
@@ -79,7 +63,7 @@ pub fn clock(m: Machine, program: &[u32], store: &mut [u32], line: u8, input: u3
     ensures { λ r. ⌜ ClockHolds m (now (program .entry)) (now (store .entry)) line input r (now (store .exit)) ⌝ }
 {
     let refused = clock_refused(m, program, store, line);
-    if !accepted(refused) {
+    if !record::accepted(refused) {
         return Clock {
             refused: refused,
             machine: m,
@@ -148,7 +132,7 @@ pub fn run(
         (now (words .entry)) r (now (store .exit)) (now (bytes .exit)) (now (words .exit)) ⌝ }
 {
     let refused = run_refused(m, program, store, lines, inputs, bytes, words);
-    if !accepted(refused) {
+    if !record::accepted(refused) {
         return Run {
             refused: refused,
             machine: m,

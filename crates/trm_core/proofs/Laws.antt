@@ -12,3 +12,4 @@ pub mod Kept
 pub mod Limits
 pub mod Scenario
 pub mod Refused
+pub mod Rows

@@ -1,7 +1,7 @@
 -- Look and watch: what they give back; the copy is `copyOf` of trm_cache.
 -- Paper: "A look gives one word of data memory .. a full line's word standing before the store's";
 -- "the watch names a clock, from 0, whose byte shows that device written, or none if there is no such clock". Assumes nothing.
---   lookAt G m s address   one word        WatchHolds   what holds of the watch's answer
+--   lookAt G m s address   one word        SightingHolds   what holds of the watch's answer
 use Prim.Native.Nat.{ℕ, _%_, _<_}
 use mathlib.Core.Path.{_≡_}
 use mathlib.Core.Bool.{Bool, true, false, _&&_}
@@ -26,6 +26,6 @@ unfoldable pub showsWrite : ℕ → ℕ → Bool
 showsWrite device byte = isSet (bit 1 byte) && eqb (bits 7 2 byte) device
 
 -- which of several clocks is named is free
-unfoldable pub WatchHolds : List ℕ → ℕ → Sighting → Type 0
-WatchHolds bytes device (Clock k) = (k < length bytes) × (showsWrite device (getD bytes k 0) ≡ true)
-WatchHolds bytes device Nowhere = (k : ℕ) → k < length bytes → showsWrite device (getD bytes k 0) ≡ false
+unfoldable pub SightingHolds : List ℕ → ℕ → Sighting → Type 0
+SightingHolds bytes device (Clock k) = (k < length bytes) × (showsWrite device (getD bytes k 0) ≡ true)
+SightingHolds bytes device Nowhere = (k : ℕ) → k < length bytes → showsWrite device (getD bytes k 0) ≡ false

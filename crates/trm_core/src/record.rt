@@ -1,6 +1,6 @@
 // The record's scalars: numbers only, so that any bytes are a record and row 5 judges them.
 // Paper: "The record holds phase and count"; "The record also counts finished refills and write-backs".
-// Most scalars are 64 bits wide for speed; row 5 holds each to its own width, and row 4 `size` to the store.
+// The other scalars are 64 bits wide for speed; row 5 holds each to its own width, and row 4 `size` to the store.
 
 // The counts: clocks, held clocks, finished refills and write-backs.
 #[repr(C)]
@@ -21,17 +21,18 @@ pub struct Running {
     pub quotient: u64,
 }
 
-// All that is no array. `size` is the store's length at reset; H is as wide as its type.
+// All that is no array. `size` is the store's length at reset; H is as wide as its type. Two u32 side by side that seldom change:
+// beside a scalar that changes often a u32 would be packed and unpacked in every clock.
 #[repr(C)]
 pub struct Scalars {
-    pub h: u32,
-    pub status: u32,
+    pub status: u64,
     pub pc: u64,
     pub n: u64,
     pub z: u64,
     pub c: u64,
     pub v: u64,
     pub running: Running,
-    pub size: u64,
+    pub h: u32,
+    pub size: u32,
     pub counts: Counts,
 }

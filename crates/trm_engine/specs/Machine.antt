@@ -1,16 +1,15 @@
--- The record of the code as the record of the definitions, and a clock's outcome put together from the parts that are lent.
+-- The record of the code as the record of the definitions, and the outcome of a clock and of a run.
 -- Paper: "The clock call takes the record and returns it".
 -- Assumes nothing.
---   recordOf m   the record of trm_core        made   what a clock leaves and answers
+--   recordOf m   the record of trm_core        ticked, ranTo   what a clock and a run leave and answer
 use Prim.Native.Nat.{ℕ}
 use mathlib.Core.List.{List}
 use Rattle.trm_reference.specs.Access.{Answer}
 use Rattle.trm_reference.specs.Trace.{After}
-use Rattle.trm_cache.specs.Cache.{Cache, cache}
+use Rattle.trm_cache.specs.Cache.{cache}
 use Rattle.trm_core.specs.Record as core
 use Rattle.trm_core.specs.Record.{Lent, whole}
 use Rattle.trm_engine.specs.declared.machine.Machine.{Machine}
-use Rattle.trm_engine.specs.declared.inner.last.Clocked.{Clocked}
 use Rattle.trm_engine.specs.declared.inner.methods.Ticked.{Ticked}
 use Rattle.trm_engine.specs.declared.inner.methods.Finished.{Finished}
 use Rattle.trm_core.specs.Run.{Ran}
@@ -19,15 +18,7 @@ use Rattle.trm_core.specs.declared.record.Running.{Running}
 abbrev pub recordOf : Machine → core.Machine
 recordOf m = whole (m .scalars) (m .regs) (cache (m .full) (m .dirty) (m .block) (m .words))
 
--- what a clock leaves and answers, from its result and the parts that are lent
-abbrev pub made : Clocked → List ℕ → Cache → List ℕ → After Lent Answer
-made r rs ca s =
-    record {
-      state = record { machine = whole (r .scalars) rs ca; store = s };
-      out = record { byte = r .byte; word = r .word; done = r .done };
-    }
-
--- the same from the record that a clock hands back
+-- what a clock leaves and answers, from the record that it hands back
 abbrev pub ticked : Ticked → List ℕ → After Lent Answer
 ticked r s =
     record {

@@ -4,3 +4,4 @@
 pub mod Facts
 pub mod Kinds
 pub mod Plans
+pub mod Flight

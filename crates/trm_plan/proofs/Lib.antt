@@ -1,4 +1,4 @@
--- The proofs of the plan: its laws, and a file for each function.
+-- The laws of what a clock does.
 -- Nothing here need be read to know what is claimed.
 -- Assumes nothing.
 pub mod Laws

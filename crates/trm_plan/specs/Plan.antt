@@ -1,7 +1,7 @@
--- What the clock's plan promises of the record: what each answer means for `isLast` and `advance` of the clocked machine.
+-- What a clock does, as an action, and what each means for `isLast` and `advance` of the clocked machine.
 -- Paper: none; these are the terms of the inner functions' contracts. No claim rests on them.
 -- Assumes nothing.
---   Good w n c rs ca    the record rule, for the word w        Plan a w n c rs ca   the clock's action is a
+--   Good w n c rs ca    the record rule, for the word w        Plan a w n c rs ca   the clock's action is a        Action
 use Prim.Native.Nat.{ℕ, _+_, _*_, _%_, _≤_, _<_}
 use mathlib.Core.Path.{_≡_}
 use mathlib.Core.Bool.{Bool, true, false}
@@ -15,8 +15,17 @@ use Rattle.trm_core.specs.Record.{gathered, productAt, remainderAt, quotientAt,
 use Rattle.trm_core.specs.Clock.{Moved, moved, isLast, writing, filling, missing, advance}
 use Rattle.trm_core.specs.Rule.{widthsOk, countsOk, registersOk, phaseOk, linesOk}
 use Rattle.trm_steps.specs.Steps.{Steps}
-use Rattle.trm_plan.specs.declared.inner.plan.Action.{Action}
-use Rattle.trm_plan.specs.declared.inner.plan.Action.the-variants.{Finish, Step, Write, Fill, Miss, Wait, Due}
+
+-- the word's last clock; one step; one clock of a write-back, of a refill; the looking clock of a miss; one wait past the cache;
+-- a clock before the last one
+pub data Action : Type 0 where
+  Finish : Action
+  Step : Action
+  Write : (clears : Bool) → (line : ℕ) → Action
+  Fill : (block : ℕ) → Action
+  Miss : (line : ℕ) → Action
+  Wait : Action
+  Due : Action
 
 -- row 5, for the word w and a store of the legal length n
 pub record Good (w n : ℕ) (c : Scalars) (rs : List ℕ) (ca : Cache) : Type 0 where
@@ -62,13 +71,3 @@ Plan (Fill b) w n c rs ca = Fills w n c rs ca b
 Plan (Miss l) w n c rs ca = Misses w n c rs ca l
 Plan Wait w n c rs ca = Does w n c rs ca (λ s. moved c (inPhase 4 (c .running .count + 1)) ca s 0 0) × (c .running .count < 10)
 Plan Due w n c rs ca = Does w n c rs ca (λ s. moved c (inPhase 5 0) ca s 0 0)
-
--- the action ends the word
-abbrev pub endsBy : Action → Bool
-endsBy Finish = true
-endsBy Step = false
-endsBy (Write clears l) = false
-endsBy (Fill b) = false
-endsBy (Miss l) = false
-endsBy Wait = false
-endsBy Due = false

@@ -1,4 +1,3 @@
-// The plan of a clock: what it does, decided from the record and the word at PC before anything is changed.
+// What a clock does, by the phase and the word at PC: definitions and laws, no code.
 // Paper: the clock table and the phases.
-// Every function is shared with the crates above and stands in `inner`.
-pub mod inner;
+// The functions of trm_clock cite them.

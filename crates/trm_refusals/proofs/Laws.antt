@@ -1,28 +1,27 @@
--- Laws of the test that runs over a list, and what a passed row gives.
+-- Laws of the test that runs over a list, what a passed row gives, and the number of a call by its first rows.
 -- Idea: a list from place i on is its number there, then the rest; the rest by cases on the Bool.
 -- Assumes nothing.
-use Prim.Native.Nat.{ℕ, zero, suc, _+_, _^_, _≤_, _<_}
+--   all-more, all-bad, all-end     passed-store, passed-clocks, passed-length     code-zero, kept-number, passed-rows
+use Prim.Native.Nat.{ℕ, _+_, _^_, _≤_, _<_}
 use mathlib.Core.Path.{_≡_, refl, sym, _∙_}
-use mathlib.Core.Bool.{Bool, true, false, not, _&&_, _||_}
+use mathlib.Core.Bool.{Bool, true, false, cond, not, _&&_, _||_}
 use mathlib.Core.List.{List, [], _∷_}
 use native.Mathlib.Numerals.{add-one}
 use native.Mathlib.Omega.{arith}
-use native.Mathlib.Decide.{ℕ-discrete}
-use borrow.Author.Tests.{le-leb, lt-leb, leb-true, ltb-true, ltb-false}
+use borrow.Author.Tests.{le-leb, lt-leb, ltb-true, ltb-false, eqb-true, not-true, not-false}
 use lib.ListN.{length, getD, drop, drop-of-length-le}
 use lib.Seq.{drop-cons}
 use lib.Dec.{eqb, leb, ltb}
-use Rattle.trm_laws.proofs.Tests.{clash, both, all3, all4, test-at}
+use Rattle.trm_laws.proofs.Tests.{clash, both, all4, test-at}
 use Rattle.trm_word.specs.Address.{storeLengthOk}
 use Rattle.trm_reference.specs.Geometry.{paperGeometry}
-use Rattle.trm_reference.specs.Visible.{Visible, cacheOn, wordAt}
-use Rattle.trm_reference.specs.Charge.{isStepped}
-use Rattle.trm_cache.specs.Cache.{Cache, lineAt}
+use Rattle.trm_reference.specs.Visible.{cacheOn, wordAt}
 use Rattle.trm_core.specs.declared.record.Counts.{Counts}
-use Rattle.trm_core.specs.declared.record.Running.{Running}
 use Rattle.trm_core.specs.Record.{Machine, visibleOf, cacheOf}
-use Rattle.trm_core.specs.Rule.{allBelow, marksOk, lineOk, widthsOk, phaseOk, arithmeticOk, registersOk, countsOk, linesOk, recordOk}
-use Rattle.trm_core.specs.Refusals.{allAtMost, linesRefused}
+use Rattle.trm_core.specs.Rule.{widthsOk, phaseOk, registersOk, countsOk, linesOk, recordOk}
+use Rattle.trm_core.specs.Refusals.{allAtMost, linesRefused, recordRows, resetRefusal}
+use Rattle.trm_core.proofs.Laws.Fit.{legal-small}
+use Rattle.trm_core.proofs.Laws.Rows.{Passed, rows-passed, rows-kept}
 
 all-cons : (limit x : ℕ) (xs : List ℕ) → allAtMost limit (x ∷ xs) ≡ (leb x limit && allAtMost limit xs)
 unfolding allAtMost
@@ -80,3 +79,27 @@ passed-length lines inputs t = go (eqb (length lines) (length inputs)) (ltb 6553
     go true true q d e = clash (sym e)
     go true false q d e = let h : length lines ≤ 65536 = ltb-false 65536 (length lines) q in omega (arith, h)
     go false b q d e = clash (sym e)
+
+-- the number of a call that is accepted
+pub code-zero : {number code : ℕ} {t : Bool} → number ≡ code → t ≡ eqb number 0 → t ≡ true → code ≡ 0
+code-zero {number} {code} {t} e a b = sym e ∙ eqb-true number 0 (sym a ∙ b)
+
+-- a number that rows 3, 4 and 5 give is the call's
+pub kept-number : (p : List ℕ) (m : Machine) (s : List ℕ) (rest : ℕ) {number : ℕ} {t : Bool} → number ≡ recordRows paperGeometry p m s 0
+    → t ≡ eqb number 0 → not t ≡ true → number ≡ recordRows paperGeometry p m s rest
+kept-number p m s rest {number} {t} e a b =
+    e ∙ rows-kept paperGeometry p m s rest (test-at (sym e) 0 ∙ (sym a ∙ not-true t b))
+
+-- where they give none, they are passed
+pub passed-rows : (p : List ℕ) (m : Machine) (s : List ℕ) {number : ℕ} {t : Bool} → number ≡ recordRows paperGeometry p m s 0
+    → t ≡ eqb number 0 → not t ≡ false → Passed paperGeometry p m s
+passed-rows p m s {number} {t} e a b = rows-passed paperGeometry p m s 0 (code-zero e a (not-false t b)) .0
+
+-- a reset that is not refused has a short store
+pub reset-short : (s : List ℕ) → eqb (resetRefusal s) 0 ≡ true → length s < 2 ^ 32
+unfolding resetRefusal
+reset-short s = go (storeLengthOk (length s)) refl
+  where
+    go : (t : Bool) → storeLengthOk (length s) ≡ t → eqb (cond t 0 4) 0 ≡ true → length s < 2 ^ 32
+    go true q e = omega (arith, legal-small (length s) q)
+    go false q e = clash e

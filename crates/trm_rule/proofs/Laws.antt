@@ -43,8 +43,8 @@ below-bad (suc k) i f h e = go (ℕ-discrete i k) (λ l. below-bad k i f l e)
     go (no z) g = rw (below-suc, g (omega (arith, h, z)))
 
 -- all of them passed
-pub below-all : (k i : ℕ) (f : ℕ → Bool) → i ≤ k → k ≤ i → allBelow i f ≡ true → allBelow k f ≡ true
-below-all k i f p q t = let e : i ≡ k = omega (arith, p, q) in rw (← e) t
+pub below-end : (k i : ℕ) (f : ℕ → Bool) → i ≤ k → k ≤ i → allBelow i f ≡ true → allBelow k f ≡ true
+below-end k i f p q t = let e : i ≡ k = omega (arith, p, q) in rw (← e) t
 
 -- what is asked of line l
 abbrev pub goodLine : Bool → ℕ → Cache → ℕ → Bool

@@ -26,6 +26,8 @@ pub record Multiplies (r : Running) (a b : ℕ) : Type 0 where
   pub few : r .count < 32
   pub fresh : r .phase ≡ 0 → r .count ≡ 0
   pub product : r .phase ≢ 0 → r .product ≡ mulAfter a b (r .count)
+  pub remainder : r .phase ≢ 0 → r .remainder ≡ 0
+  pub quotient : r .phase ≢ 0 → r .quotient ≡ 0
 
 -- and for the divider
 pub record Divides (r : Running) (a b : ℕ) : Type 0 where
@@ -33,6 +35,7 @@ pub record Divides (r : Running) (a b : ℕ) : Type 0 where
   pub fresh : r .phase ≡ 0 → r .count ≡ 0
   pub remainder : r .phase ≢ 0 → r .remainder ≡ divRem a b (r .count)
   pub quotient : r .phase ≢ 0 → r .quotient ≡ divQuot a b (r .count)
+  pub product : r .phase ≢ 0 → r .product ≡ 0
 
 abbrev pub multiplied : ℕ → ℕ → ℕ → Running
 multiplied a b k = record { phase = 1; count = k; product = mulAfter a b k; remainder = 0; quotient = 0 }

@@ -10,7 +10,7 @@ use lib.ListN.{take}
 use lib.Seq.{length-take-le}
 use lib.Dec.{eqb}
 use borrow.Author.Tests.{eqb-true, eq-eqb}
-use Rattle.trm_reference.specs.Geometry.{paperGeometry, oneOf, geometryOk}
+use Rattle.trm_reference.specs.Geometry.{paperGeometry}
 use Rattle.trm_reference.specs.Access.{Answer, silent}
 use Rattle.trm_reference.specs.Trace.{After, pinsOf, clocks, endOf, outsOf, finishedIn}
 use Rattle.trm_reference.proofs.Laws.Trace.{pins-take}
@@ -27,6 +27,7 @@ use Rattle.trm_calls.specs.declared.answer.Clock.{Clock}
 use Rattle.trm_calls.specs.declared.answer.Run.{Run}
 use Rattle.trm_calls.specs.Outcome as outcome
 use Rattle.trm_calls.specs.Outcome.{lent, pins, resetGives, clockGives, ran, runGives, ResetHolds, ClockHolds, RunHolds}
+use Rattle.trm_plan.proofs.Laws.Facts.{paper-ok}
 use Rattle.trm_agreement.specs.Log.{started, clocked, ended, clocksOf, entries, calls, logOf, returnsIn}
 use Rattle.trm_agreement.specs.Calls.{Call, clockCall, runCall, feed, answer, Ended, runEnds, numberOf}
 use Rattle.trm_agreement.specs.Calls.{recordSeen, recordCode, recordEngine}
@@ -173,10 +174,6 @@ module _ (p : List ℕ) where
       rest : All (λ b. numberOf b ≢ 5)
           (returnsIn (calls feed answer (recordEngine paperGeometry p) (lent (machineLeft a) (storeLeft a)) cs))
       rest = rw (st .left) (whole .1)
-
-paper-ok : geometryOk paperGeometry ≡ true
-unfolding geometryOk oneOf
-paper-ok = refl
 
 -- the record that an accepted reset returns
 module _ (s : List ℕ) (r : Reset) (met : ResetMet s r) (z : refusalNumber (r .refused) ≡ 0) where

@@ -2,6 +2,8 @@
 // Paper: "Reset makes everything zero and the cache empty; the store keeps its contents".
 // A refused reset has that of no word: no legal store has none, so every call refuses it.
 ghost use mathlib.Core.Path.{_≡_};
+ghost use Prim.Native.Nat.{_^_, _<_};
+ghost use lib.ListN.{length};
 ghost use Rattle.trm_reference.specs.Geometry.{paperGeometry};
 ghost use Rattle.trm_core.specs.Record.{resetOf};
 ghost use Rattle.trm_engine.specs.Machine.{recordOf};
@@ -21,12 +23,12 @@ fn no_counts() -> Counts
 }
 
 fn zero_scalars(store: &[u32]) -> Scalars
+    requires { ⌜ length (now store) < 2 ^ 32 ⌝ }
     ensures { λ r. ⌜ r ≡ resetOf paperGeometry (now (store .entry)) .scalars ⌝ }
 {
     let counts = no_counts();
     let running = trm_steps::inner::scalars::in_phase(0, 0);
     Scalars {
-        h: 0,
         status: 0,
         pc: 0,
         n: 0,
@@ -34,12 +36,14 @@ fn zero_scalars(store: &[u32]) -> Scalars
         c: 0,
         v: 0,
         running: running,
-        size: store.len() as u64,
+        h: 0,
+        size: store.len() as u32,
         counts: counts,
     }
 }
 
 pub fn zero_record(store: &[u32]) -> Machine
+    requires { ⌜ length (now store) < 2 ^ 32 ⌝ }
     ensures { λ r. ⌜ recordOf r ≡ resetOf paperGeometry (now (store .entry)) ⌝ }
 {
     let scalars = zero_scalars(store);

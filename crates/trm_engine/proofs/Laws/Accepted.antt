@@ -1,47 +1,25 @@
 -- What a call that nothing refuses tells: each row's condition, row by row.
 -- Idea: a number of 0 is the last branch of the rows' tests.
 -- Assumes nothing.
---   clock-accepted    run-accepted    clock-free   a clock is not refused
-use Prim.Native.Nat.{ℕ, _+_, _≤_, _<_}
-use mathlib.Core.Path.{_≡_, refl, sym, _∙_}
+--   clock-passed    run-passed    clock-free   a clock is not refused
+use Prim.Native.Nat.{ℕ, _+_, _≤_}
+use mathlib.Core.Path.{_≡_, refl}
 use mathlib.Core.Bool.{Bool, true, false, cond, not, _||_}
 use mathlib.Core.List.{List}
 use lib.ListN.{length}
-use lib.Dec.{eqb, leb, ltb}
-use borrow.Author.Tests.{eqb-true, ltb-false, leb-false, le-ltb, not-true, not-false}
+use lib.Dec.{eqb, ltb}
+use borrow.Author.Tests.{eqb-true, ltb-false, le-ltb}
 use native.Mathlib.Omega.{arith}
-use Rattle.trm_laws.proofs.Tests.{both, clash}
-use Rattle.trm_word.specs.Address.{storeLengthOk}
 use Rattle.trm_reference.specs.Geometry.{paperGeometry}
-use Rattle.trm_core.specs.Record.{Machine, resetOf}
-use Rattle.trm_core.specs.Rule.{recordOk}
-use Rattle.trm_core.specs.Refusals.{allAtMost, programOk, storeOk, linesRefused, recordRows}
+use Rattle.trm_core.specs.Record.{Machine}
+use Rattle.trm_core.specs.Refusals.{allAtMost, linesRefused, recordRows}
+use Rattle.trm_core.proofs.Laws.Rows.{Passed, rows-passed}
 use Rattle.trm_core.specs.Refusals.{countRow, clockRows, runRows, clockRefusal, runRefusal}
 
--- rows 3, 4 and 5 passed
-pub record Passed (p : List ℕ) (m : Machine) (s : List ℕ) : Type 0 where
-  pub program : programOk p ≡ true
-  pub store : storeOk m s ≡ true
-  pub rule : recordOk paperGeometry p (length s) m ≡ true
-
-pub legal-of : (m : Machine) (s : List ℕ) → storeOk m s ≡ true → storeLengthOk (length s) ≡ true
-unfolding storeOk
-legal-of m s = both (storeLengthOk (length s)) (eqb (length s) (m .scalars .size)) (λ a b. a)
-
-rows-passed : (p : List ℕ) (m : Machine) (s : List ℕ) (rest : ℕ) → recordRows paperGeometry p m s rest ≡ 0 → Passed p m s × (rest ≡ 0)
-unfolding recordRows
-rows-passed p m s rest = go (programOk p) refl (storeOk m s) refl (recordOk paperGeometry p (length s) m) refl
-  where
-    go : (a : Bool) → programOk p ≡ a → (b : Bool) → storeOk m s ≡ b → (c : Bool) → recordOk paperGeometry p (length s) m ≡ c
-        → _≡_ {A = ℕ} (cond (not a) 3 (cond (not b) 4 (cond (not c) 5 rest))) 0 → Passed p m s × (rest ≡ 0)
-    go false x b y c z q = absurd (omega arith)
-    go true x false y c z q = absurd (omega arith)
-    go true x true y false z q = absurd (omega arith)
-    go true x true y true z q = (record { program = x; store = y; rule = z }, q)
-
-pub clock-passed : (p : List ℕ) (m : Machine) (s : List ℕ) (line : ℕ) → clockRefusal paperGeometry p m s line ≡ 0 → Passed p m s
+pub clock-passed : (p : List ℕ) (m : Machine) (s : List ℕ) (line : ℕ) → clockRefusal paperGeometry p m s line ≡ 0
+    → Passed paperGeometry p m s
 unfolding clockRefusal
-clock-passed p m s line q = rows-passed p m s (clockRows (m .scalars .counts .clocks) line) q .0
+clock-passed p m s line q = rows-passed paperGeometry p m s (clockRows (m .scalars .counts .clocks) line) q .0
 
 -- the run's own rows
 pub record Runs (m : Machine) (lines inputs bytes words : List ℕ) : Type 0 where
@@ -79,14 +57,14 @@ own-rows m lines inputs bytes words = go (eqb (length lines) (length inputs)) re
     }
 
 pub run-passed : (p : List ℕ) (m : Machine) (s lines inputs bytes words : List ℕ)
-    → runRefusal paperGeometry p m s lines inputs bytes words ≡ 0 → Passed p m s × Runs m lines inputs bytes words
+    → runRefusal paperGeometry p m s lines inputs bytes words ≡ 0 → Passed paperGeometry p m s × Runs m lines inputs bytes words
 unfolding runRefusal
 run-passed p m s lines inputs bytes words q =
-    let a = rows-passed p m s (runRows (m .scalars .counts .clocks) lines inputs bytes words) q in
+    let a = rows-passed paperGeometry p m s (runRows (m .scalars .counts .clocks) lines inputs bytes words) q in
     (a .0, own-rows m lines inputs bytes words (a .1))
 
 -- a clock of a run is not refused
-pub clock-free : (p : List ℕ) (m : Machine) (s : List ℕ) (line : ℕ) → Passed p m s → line ≤ 7
+pub clock-free : (p : List ℕ) (m : Machine) (s : List ℕ) (line : ℕ) → Passed paperGeometry p m s → line ≤ 7
     → m .scalars .counts .clocks + 1 ≤ 4294967295 → clockRefusal paperGeometry p m s line ≡ 0
 unfolding clockRefusal recordRows clockRows countRow
 clock-free p m s line a low room =

@@ -16,7 +16,7 @@ use Rattle.trm_reference.specs.Access.{Answer, targetBlock, targetLine}
 use Rattle.trm_reference.specs.Interrupt.{stalled, interruptChosen}
 use Rattle.trm_reference.specs.Charge.{isStepped, throughCache, pastCache, turnsCacheOff}
 use Rattle.trm_reference.specs.Trace.{Pins, After}
-use Rattle.trm_cache.specs.Cache.{Cache, lineAt, cleaned, countDirty, firstDirty, writeWord}
+use Rattle.trm_cache.specs.Cache.{Cache, lineAt, cleaned, firstDirty, writeWord}
 use Rattle.trm_core.specs.declared.record.Scalars.{Scalars}
 use Rattle.trm_core.specs.Record.{Machine, Lent, visibleOf, cacheOf}
 use Rattle.trm_core.specs.Clock.{Moved, hits, isLast, finish, written, writing}

@@ -4,18 +4,17 @@
 --   one-free    one-ran
 use Prim.Native.Nat.{ℕ, _+_}
 use mathlib.Core.Path.{_≡_, refl, sym, ap, _∙_}
-use mathlib.Core.Bool.{Bool, true, false, cond, not, _&&_}
+use mathlib.Core.Bool.{Bool, true, false, not, _&&_}
 use mathlib.Core.List.{List, [], _∷_}
-use lib.ListN.{length, getD}
+use lib.ListN.{getD}
 use lib.Dec.{leb, ltb}
 use borrow.Author.Tests.{leb-true, leb-false, le-ltb, lt-ltb}
 use native.Mathlib.Omega.{arith}
 use Rattle.trm_reference.specs.Geometry.{paperGeometry}
-use Rattle.trm_reference.specs.Access.{Answer}
-use Rattle.trm_reference.specs.Trace.{Pins, pinsOf, After, clocks, endOf, outsOf, finishedIn}
+use Rattle.trm_reference.specs.Trace.{pinsOf, clocks, endOf, outsOf, finishedIn}
 use Rattle.trm_core.specs.Record.{Machine, Lent}
 use Rattle.trm_core.specs.Clock.{clockOf}
-use Rattle.trm_core.specs.Refusals.{allAtMost, linesRefused, runRows, clockRows, recordRows, clockRefusal, runRefusal}
+use Rattle.trm_core.specs.Refusals.{allAtMost, linesRefused, runRows, clockRows, clockRefusal, runRefusal}
 use Rattle.trm_core.specs.Run.{bytesOf, wordsOf, historyOf, Ran, runOf}
 
 low : (line : ℕ) → not (leb line 7 && true) ≡ ltb 7 line

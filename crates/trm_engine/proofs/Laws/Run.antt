@@ -4,7 +4,7 @@
 --   Ran-so-far   the invariant        run-none, run-more, run-end
 use Prim.Native.Nat.{ℕ, zero, suc, _+_, _≤_, _<_}
 use mathlib.Core.Path.{_≡_, refl, sym, ap, _∙_}
-use mathlib.Core.Bool.{Bool, true, false, _&&_}
+use mathlib.Core.Bool.{true}
 use mathlib.Core.List.{List, [], _∷_, _++_, append-assoc, append-nil}
 use lib.ListN.{length, getD, set, take, drop, length-set, drop-of-length-le}
 use lib.Seq.{drop-cons, take-all, length-take-le}
@@ -22,9 +22,10 @@ use Rattle.trm_core.specs.Record.{Lent}
 use Rattle.trm_core.specs.Clock.{clockOf}
 use Rattle.trm_core.specs.Claims.{Shaped, Kept}
 use Rattle.trm_core.specs.Refusals.{allAtMost, clockRefusal}
-use Rattle.trm_core.specs.Run.{bytesOf, wordsOf, historyOf, Ran, runOf}
+use Rattle.trm_core.specs.Run.{bytesOf, wordsOf, historyOf, runOf}
 use Rattle.trm_core.proofs.Laws.Kept.{record-kept}
-use Rattle.trm_engine.proofs.Laws.Accepted.{Passed, Runs, clock-free}
+use Rattle.trm_core.proofs.Laws.Rows.{Passed}
+use Rattle.trm_engine.proofs.Laws.Accepted.{Runs, clock-free}
 use Rattle.trm_engine.proofs.Laws.Adds.{clock-adds}
 use Rattle.trm_plan.proofs.Laws.Facts.{paper-ok}
 
@@ -83,14 +84,14 @@ pub record Ran-so-far (p ls is bs₀ ws₀ : List ℕ) (x₀ x : Lent) (bs ws : 
   pub words : ws ≡ wordsOf (outsOf (hist p x₀ ls is i)) ++ drop i ws₀
   pub done : f ≡ finishedIn (outsOf (hist p x₀ ls is i))
   pub few : f ≤ i
-  pub passed : Passed p (x .machine) (x .store)
+  pub passed : Passed paperGeometry p (x .machine) (x .store)
   pub shaped : Shaped paperGeometry (x .machine)
   pub count : x .machine .scalars .counts .clocks ≡ x₀ .machine .scalars .counts .clocks + i
   pub long : length (x .store) ≡ length (x₀ .store)
   pub wide : length bs ≡ length bs₀
   pub broad : length ws ≡ length ws₀
 
-pub run-none : (p ls is bs ws : List ℕ) (x : Lent) → Passed p (x .machine) (x .store) → Shaped paperGeometry (x .machine)
+pub run-none : (p ls is bs ws : List ℕ) (x : Lent) → Passed paperGeometry p (x .machine) (x .store) → Shaped paperGeometry (x .machine)
     → Ran-so-far p ls is bs ws x x bs ws 0 0
 unfolding hist clocks endOf outsOf bytesOf wordsOf finishedIn
 run-none p ls is bs ws x a sh = record {

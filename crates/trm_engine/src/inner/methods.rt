@@ -58,10 +58,11 @@ impl Machine {
         let mut dirty = self.dirty;
         let mut block = self.block;
         let mut cached = self.words;
+        let charges = trm_word::inner::charge::base_charges();
         let mut finished: u64 = 0;
         let mut i: usize = 0;
         while i < lines.len() {
-            let r = crate::inner::clock::clock(
+            let r = trm_clock::inner::clock::clock(
                 scalars,
                 program,
                 &mut regs,
@@ -72,6 +73,7 @@ impl Machine {
                 store,
                 lines[i],
                 inputs[i],
+                &charges,
             );
             scalars = r.scalars;
             bytes[i] = r.byte;

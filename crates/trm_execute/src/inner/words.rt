@@ -1,25 +1,25 @@
 // A word carried out: the last clock of each of the sixteen operations.
 // Paper: "What a programmer sees", the list from 0 MOV to 15. MUL and DIV end from their registers after 32 steps.
-// One match on the operation; each arm gives the scalars after the clock and leaves the registers in the lent banks.
+// Each gives the scalars after the clock and leaves the registers in the lent banks; which word it is the caller knows.
 ghost use mathlib.Core.Path.{_≡_};
-ghost use mathlib.Core.Bool.{true, cond};
+ghost use mathlib.Core.Logic.{_≢_};
+ghost use mathlib.Core.Bool.{true, false};
 ghost use mathlib.Core.List.{[]};
 ghost use lib.ListN.{set};
-ghost use Prim.Native.Nat.{_<_};
-ghost use Rattle.trm_word.specs.Fields.{bit, destination};
-ghost use Rattle.trm_word.specs.Condition.{isSet};
+ghost use Prim.Native.Nat.{ℕ, _<_};
+ghost use Rattle.trm_word.specs.Fields.{operation, bit};
 ghost use Rattle.trm_alu.specs.Multiply.{mulAfter};
 ghost use Rattle.trm_alu.specs.Divide.{divRem, divQuot};
 ghost use Rattle.trm_alu.specs.Results.{resultOf, highOf};
 ghost use Rattle.trm_reference.specs.Visible.{registerIndex, nextPc};
-ghost use Rattle.trm_reference.specs.Execute.{calculated, wentTo, wroteTo, statusSet, returned, jumped, branchTarget, branched, called};
-ghost use Rattle.trm_reference.specs.Execute.{execute};
-ghost use Rattle.trm_core.specs.Record.{gathered, ended, productAt, remainderAt, quotientAt};
+ghost use Rattle.trm_reference.specs.Execute.{execute, wentTo, wroteTo, returned, branchTaken, branchTarget};
+ghost use Rattle.trm_reference.specs.Charge.{isStepped};
+ghost use Rattle.trm_core.specs.Record.{gathered, ended, inPhase, productAt, remainderAt, quotientAt};
 ghost use Rattle.trm_core.specs.Rule.{widthsOk, countsOk};
 use trm_core::record::Running;
 use trm_core::record::Scalars;
 
-// R.d and H after an operation 0 to 10.
+// R.d and H after 8 and 9.
 struct Outcome {
     pub word: u32,
     pub high: u32,
@@ -34,7 +34,7 @@ fn next_pc(pc: u64) -> u64
 }
 
 // R.r := x.
-fn put_register(regs: &mut [u32; 16], status: u32, r: u32, x: u32)
+fn put_register(regs: &mut [u32; 16], status: u64, r: u32, x: u32)
     requires { ⌜ r < 8 ⌝ }
     ensures { λ _. ⌜ now (regs .exit) ≡ set (now (regs .entry)) (registerIndex status r) x ⌝ }
 {
@@ -62,11 +62,34 @@ fn write_to(c: Scalars, regs: &mut [u32; 16], pc: u64, r: u32, x: u32) -> Scalar
     go_to(c, pc)
 }
 
-// R.d and H: of 8 the two words of the product, of 9 quotient and remainder; H stays in every other operation.
-fn outcome_of(running: Running, op: u64, a: u32, b: u32, h: u32) -> Outcome
-    requires { ⌜ (op ≡ 8 → running .product ≡ mulAfter a b 32) × (op ≡ 9 → running .remainder ≡ divRem a b 32)
+// 0 to 7 and 10, in their one clock.
+pub fn short(c: Scalars, regs: &mut [u32; 16], w: u32) -> Scalars
+    requires { ⌜ (widthsOk (gathered c (now regs)) ≡ true) × (countsOk (c .counts) ≡ true) × (c .running ≡ inPhase 0 0)
+        × (operation w < 11) × (isStepped w ≡ false) ⌝ }
+    ensures { λ r. ⌜ (r ≡ ended c (execute w (gathered c (now (regs .entry))) 0))
+        × (now (regs .exit) ≡ execute w (gathered c (now (regs .entry))) 0 .regs) ⌝ }
+{
+    let op = (w / 0x4000 % 16) as u64;
+    let a = trm_reading::inner::reading::operand_a(c, regs, w);
+    let b = trm_reading::inner::reading::operand_b(c, regs, w);
+    let result = trm_alu::inner::bits::short_result(op, a, b);
+    let flags = trm_alu::inner::flags::flags_after(op, a, b, result, c.c, c.v);
+    put_register(regs, c.status, w / 0x800 % 8, result);
+    let pc = next_pc(c.pc);
+    let mut next = trm_steps::inner::scalars::tick(c);
+    next.pc = pc;
+    next.n = flags.n;
+    next.z = flags.z;
+    next.c = flags.c;
+    next.v = flags.v;
+    next
+}
+
+// R.d and H: of 8 the two words of the product, of 9 quotient and remainder.
+fn outcome_of(running: Running, op: u64, a: u32, b: u32) -> Outcome
+    requires { ⌜ (op ≡ 8 → running .product ≡ mulAfter a b 32) × (op ≢ 8 → op ≡ 9) × (op ≡ 9 → running .remainder ≡ divRem a b 32)
         × (op ≡ 9 → running .quotient ≡ divQuot a b 32) ⌝ }
-    ensures { λ r. ⌜ r ≡ record { word = resultOf op a b; high = highOf op a b h } ⌝ }
+    ensures { λ r. ⌜ ((h : ℕ) → r ≡ record { word = resultOf op a b; high = highOf op a b h }) ⌝ }
 {
     if op == 8 {
         return Outcome {
@@ -74,33 +97,26 @@ fn outcome_of(running: Running, op: u64, a: u32, b: u32, h: u32) -> Outcome
             high: (running.product / 0x1_0000_0000) as u32,
         };
     }
-    if op == 9 {
-        let d = trm_alu::inner::divide::finish(running.remainder, running.quotient, a, b);
-        return Outcome {
-            word: d.quotient,
-            high: d.remainder,
-        };
-    }
-    let result = trm_alu::inner::bits::short_result(op, a, b);
+    let d = trm_alu::inner::divide::finish(running.remainder, running.quotient, a, b);
     Outcome {
-        word: result,
-        high: h,
+        word: d.quotient,
+        high: d.remainder,
     }
 }
 
-// 0 to 10.
-fn calculate(c: Scalars, regs: &mut [u32; 16], w: u32) -> Scalars
-    requires { ⌜ (widthsOk (gathered c (now regs)) ≡ true) × (countsOk (c .counts) ≡ true)
+// 8 and 9, from their registers.
+pub fn long(c: Scalars, regs: &mut [u32; 16], w: u32) -> Scalars
+    requires { ⌜ (widthsOk (gathered c (now regs)) ≡ true) × (countsOk (c .counts) ≡ true) × (isStepped w ≡ true)
         × (c .running .product ≡ productAt w (gathered c (now regs)) 32)
         × (c .running .remainder ≡ remainderAt w (gathered c (now regs)) 32)
         × (c .running .quotient ≡ quotientAt w (gathered c (now regs)) 32) ⌝ }
-    ensures { λ r. ⌜ (r ≡ ended c (calculated w (gathered c (now (regs .entry)))))
-        × (now (regs .exit) ≡ calculated w (gathered c (now (regs .entry))) .regs) ⌝ }
+    ensures { λ r. ⌜ (r ≡ ended c (execute w (gathered c (now (regs .entry))) 0))
+        × (now (regs .exit) ≡ execute w (gathered c (now (regs .entry))) 0 .regs) ⌝ }
 {
     let op = (w / 0x4000 % 16) as u64;
     let a = trm_reading::inner::reading::operand_a(c, regs, w);
     let b = trm_reading::inner::reading::operand_b(c, regs, w);
-    let out = outcome_of(c.running, op, a, b, c.h);
+    let out = outcome_of(c.running, op, a, b);
     let flags = trm_alu::inner::flags::flags_after(op, a, b, out.word, c.c, c.v);
     put_register(regs, c.status, w / 0x800 % 8, out.word);
     let pc = next_pc(c.pc);
@@ -115,14 +131,16 @@ fn calculate(c: Scalars, regs: &mut [u32; 16], w: u32) -> Scalars
 }
 
 // 11 with bit 10 clear.
-fn set_status(c: Scalars, w: u32) -> Scalars
-    requires { ⌜ (widthsOk (gathered c []) ≡ true) × (countsOk (c .counts) ≡ true) ⌝ }
-    ensures { λ r. ⌜ r ≡ ended c (statusSet w (gathered c [])) ⌝ }
+pub fn set_status(c: Scalars, regs: &[u32; 16], w: u32) -> Scalars
+    requires { ⌜ (widthsOk (gathered c (now regs)) ≡ true) × (countsOk (c .counts) ≡ true) × (operation w ≡ 11)
+        × (bit 10 w ≢ 1) ⌝ }
+    ensures { λ r. ⌜ (r ≡ ended c (execute w (gathered c (now (regs .entry))) 0))
+        × (now (regs .entry) ≡ execute w (gathered c (now (regs .entry))) 0 .regs) ⌝ }
 {
     let pc = next_pc(c.pc);
     let mut next = trm_steps::inner::scalars::settle(c);
     next.pc = pc;
-    let status = w % 16;
+    let status = (w % 16) as u64;
     next.status = status;
     next
 }
@@ -149,10 +167,11 @@ fn return_from(c: Scalars, from: u32) -> Scalars
 }
 
 // 11 with bit 10 set: R.s is read before R.d is written.
-fn jump(c: Scalars, regs: &mut [u32; 16], w: u32) -> Scalars
-    requires { ⌜ (widthsOk (gathered c (now regs)) ≡ true) × (countsOk (c .counts) ≡ true) ⌝ }
-    ensures { λ r. ⌜ (r ≡ ended c (jumped w (gathered c (now (regs .entry)))))
-        × (now (regs .exit) ≡ jumped w (gathered c (now (regs .entry))) .regs) ⌝ }
+pub fn jump(c: Scalars, regs: &mut [u32; 16], w: u32) -> Scalars
+    requires { ⌜ (widthsOk (gathered c (now regs)) ≡ true) × (countsOk (c .counts) ≡ true) × (operation w ≡ 11)
+        × (bit 10 w ≡ 1) ⌝ }
+    ensures { λ r. ⌜ (r ≡ ended c (execute w (gathered c (now (regs .entry))) 0))
+        × (now (regs .exit) ≡ execute w (gathered c (now (regs .entry))) 0 .regs) ⌝ }
 {
     let from = trm_reading::inner::reading::register_at(c, regs, w % 8);
     let form = w / 256 % 4;
@@ -166,33 +185,21 @@ fn jump(c: Scalars, regs: &mut [u32; 16], w: u32) -> Scalars
     return_from(c, from)
 }
 
-// 11.
-fn control(c: Scalars, regs: &mut [u32; 16], w: u32) -> Scalars
-    requires { ⌜ (widthsOk (gathered c (now regs)) ≡ true) × (countsOk (c .counts) ≡ true) ⌝ }
-    ensures { λ r. ⌜ (r ≡ ended c (cond (isSet (bit 10 w)) (jumped w (gathered c (now (regs .entry))))
-        (statusSet w (gathered c (now (regs .entry))))))
-        × (now (regs .exit) ≡ cond (isSet (bit 10 w)) (jumped w (gathered c (now (regs .entry))))
-        (statusSet w (gathered c (now (regs .entry)))) .regs) ⌝ }
-{
-    if w / 1024 % 2 == 1 {
-        return jump(c, regs, w);
-    }
-    set_status(c, w)
-}
-
 // 12 LD, of the word x.
-fn load(c: Scalars, regs: &mut [u32; 16], w: u32, x: u32) -> Scalars
-    requires { ⌜ (widthsOk (gathered c (now regs)) ≡ true) × (countsOk (c .counts) ≡ true) ⌝ }
-    ensures { λ r. ⌜ (r ≡ ended c (wroteTo (gathered c (now (regs .entry))) (nextPc (c .pc)) (destination w) x))
-        × (now (regs .exit) ≡ wroteTo (gathered c (now (regs .entry))) (nextPc (c .pc)) (destination w) x .regs) ⌝ }
+pub fn load(c: Scalars, regs: &mut [u32; 16], w: u32, x: u32) -> Scalars
+    requires { ⌜ (widthsOk (gathered c (now regs)) ≡ true) × (countsOk (c .counts) ≡ true) × (operation w ≡ 12) ⌝ }
+    ensures { λ r. ⌜ (r ≡ ended c (execute w (gathered c (now (regs .entry))) x))
+        × (now (regs .exit) ≡ execute w (gathered c (now (regs .entry))) x .regs) ⌝ }
 {
     write_to(c, regs, next_pc(c.pc), w / 0x800 % 8, x)
 }
 
-// 13 ST: only PC changes here.
-fn pass(c: Scalars) -> Scalars
-    requires { ⌜ (widthsOk (gathered c []) ≡ true) × (countsOk (c .counts) ≡ true) ⌝ }
-    ensures { λ r. ⌜ r ≡ ended c (wentTo (gathered c []) (nextPc (c .pc))) ⌝ }
+// 13 ST, and 14 not taken: only PC changes, and goes on to the next word.
+pub fn pass(c: Scalars, regs: &[u32; 16], w: u32) -> Scalars
+    requires { ⌜ (widthsOk (gathered c (now regs)) ≡ true) × (countsOk (c .counts) ≡ true)
+        × (execute w (gathered c (now regs)) 0 ≡ wentTo (gathered c (now regs)) (nextPc (c .pc))) ⌝ }
+    ensures { λ r. ⌜ (r ≡ ended c (execute w (gathered c (now (regs .entry))) 0))
+        × (now (regs .entry) ≡ execute w (gathered c (now (regs .entry))) 0 .regs) ⌝ }
 {
     go_to(c, next_pc(c.pc))
 }
@@ -208,51 +215,22 @@ fn branch_target(pc: u64, offset: u32) -> u64
     (pc + 1 + offset as u64 + 3072) % 4096
 }
 
-// PC after operation 14.
-fn branch_pc(c: Scalars, regs: &[u32; 16], w: u32) -> u64
-    requires { ⌜ widthsOk (gathered c (now regs)) ≡ true ⌝ }
-    ensures { λ r. ⌜ r ≡ branched w (gathered c (now (regs .entry))) .pc ⌝ }
+// 14 taken.
+pub fn branch(c: Scalars, regs: &[u32; 16], w: u32) -> Scalars
+    requires { ⌜ (widthsOk (gathered c (now regs)) ≡ true) × (countsOk (c .counts) ≡ true) × (operation w ≡ 14)
+        × (branchTaken w (gathered c (now regs)) ≡ true) ⌝ }
+    ensures { λ r. ⌜ (r ≡ ended c (execute w (gathered c (now (regs .entry))) 0))
+        × (now (regs .entry) ≡ execute w (gathered c (now (regs .entry))) 0 .regs) ⌝ }
 {
-    if trm_reading::inner::reading::branch_taken(c, regs, w) {
-        return branch_target(c.pc, w % 1024);
-    }
-    next_pc(c.pc)
-}
-
-// 14.
-fn branch(c: Scalars, regs: &[u32; 16], w: u32) -> Scalars
-    requires { ⌜ (widthsOk (gathered c (now regs)) ≡ true) × (countsOk (c .counts) ≡ true) ⌝ }
-    ensures { λ r. ⌜ r ≡ ended c (branched w (gathered c (now (regs .entry)))) ⌝ }
-{
-    go_to(c, branch_pc(c, regs, w))
+    go_to(c, branch_target(c.pc, w % 1024))
 }
 
 // 15: R7 := PC + 1.
-fn call(c: Scalars, regs: &mut [u32; 16], w: u32) -> Scalars
-    requires { ⌜ (widthsOk (gathered c (now regs)) ≡ true) × (countsOk (c .counts) ≡ true) ⌝ }
-    ensures { λ r. ⌜ (r ≡ ended c (called w (gathered c (now (regs .entry)))))
-        × (now (regs .exit) ≡ called w (gathered c (now (regs .entry))) .regs) ⌝ }
+pub fn call(c: Scalars, regs: &mut [u32; 16], w: u32) -> Scalars
+    requires { ⌜ (widthsOk (gathered c (now regs)) ≡ true) × (countsOk (c .counts) ≡ true) × (operation w ≡ 15) ⌝ }
+    ensures { λ r. ⌜ (r ≡ ended c (execute w (gathered c (now (regs .entry))) 0))
+        × (now (regs .exit) ≡ execute w (gathered c (now (regs .entry))) 0 .regs) ⌝ }
 {
     let link = next_pc(c.pc) as u32;
     write_to(c, regs, (c.pc + 1 + (w % 4096) as u64) % 4096, 7, link)
-}
-
-// The last clock of the word w; x is the word that LD loads.
-pub fn carry_out(c: Scalars, regs: &mut [u32; 16], w: u32, x: u32) -> Scalars
-    requires { ⌜ (widthsOk (gathered c (now regs)) ≡ true) × (countsOk (c .counts) ≡ true)
-        × (c .running .product ≡ productAt w (gathered c (now regs)) 32)
-        × (c .running .remainder ≡ remainderAt w (gathered c (now regs)) 32)
-        × (c .running .quotient ≡ quotientAt w (gathered c (now regs)) 32) ⌝ }
-    ensures { λ r. ⌜ (r ≡ ended c (execute w (gathered c (now (regs .entry))) x))
-        × (now (regs .exit) ≡ execute w (gathered c (now (regs .entry))) x .regs) ⌝ }
-{
-    let op = w / 0x4000 % 16;
-    match op {
-        0..=10 => calculate(c, regs, w),
-        11 => control(c, regs, w),
-        12 => load(c, regs, w, x),
-        13 => pass(c),
-        14 => branch(c, regs, w),
-        _ => call(c, regs, w),
-    }
 }

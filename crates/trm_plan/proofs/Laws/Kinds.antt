@@ -1,12 +1,14 @@
 -- A word's kind from what the code tests: its operation, bit 10, the place of its access, the cache bit.
 -- Idea: with the operation known every test of `kindOf` computes.
 -- Assumes nothing.
-use Prim.Native.Nat.{ℕ, _/_, _%_}
+use Prim.Native.Nat.{ℕ, _/_, _%_, _<_}
 use mathlib.Core.Path.{_≡_, refl}
 use mathlib.Core.Logic.{_≢_}
 use mathlib.Core.Bool.{Bool, true, false, _||_}
 use lib.Dec.{eqb}
 use borrow.Author.Tests.{eq-eqb, ne-eqb, eqb-true}
+use native.Mathlib.Decide.{ℕ-discrete}
+use native.Mathlib.Omega.{arith}
 use Rattle.trm_laws.proofs.Tests.{clash}
 use Rattle.trm_word.specs.Fields.{operation, bit}
 use Rattle.trm_word.specs.declared.inner.address.Place.the-variants.{Device, Memory}
@@ -38,14 +40,23 @@ unstepped w t = go (eqb (operation w) 12) refl (eqb (operation w) 13) refl t
     go false p true q z = rw (eqb-true (operation w) 13 q)
     go false p false q z = clash z
 
-module _ (w n : ℕ) (v : Visible) where
-  pub kind-mul : operation w ≡ 8 → kindOf w v n ≡ longer
-  unfolding kindOf isStepped
-  kind-mul o = rw o
+-- 8 and 9 are the operations whose half is 4
+pub stepped-half : (w : ℕ) → operation w / 2 ≡ 4 → isStepped w ≡ true
+unfolding isStepped
+stepped-half w h = go (ℕ-discrete (operation w) 8)
+  where
+    go : Dec (operation w ≡ 8) → eqb (operation w) 8 || eqb (operation w) 9 ≡ true
+    go (yes e) = rw e
+    go (no z) = rw (ne-eqb (operation w) 8 z) (eq-eqb (operation w) 9 (omega (arith, h, z)))
 
-  pub kind-div : operation w ≡ 9 → kindOf w v n ≡ longer
-  unfolding kindOf isStepped
-  kind-div o = rw o
+pub unstepped-half : (w : ℕ) → operation w / 2 ≢ 4 → isStepped w ≡ false
+unfolding isStepped
+unstepped-half w h = rw (ne-eqb (operation w) 8 (λ z. h (rw z))) (ne-eqb (operation w) 9 (λ z. h (rw z)))
+
+module _ (w n : ℕ) (v : Visible) where
+  pub kind-stepped : isStepped w ≡ true → kindOf w v n ≡ longer
+  unfolding kindOf
+  kind-stepped t = rw t
 
   pub kind-jump : operation w ≡ 11 → bit 10 w ≡ 1 → kindOf w v n ≡ second
   unfolding kindOf isStepped isAccess isLoad isStore turnsCacheOff takesBranch isJump
@@ -71,17 +82,15 @@ module _ (w n : ℕ) (v : Visible) where
   unfolding kindOf isStepped isAccess isLoad isStore turnsCacheOff takesBranch isJump
   kind-call o = rw o
 
-  pub kind-other : operation w ≢ 8 → operation w ≢ 9 → operation w ≢ 11 → operation w ≢ 12 → operation w ≢ 13 → operation w ≢ 14
-      → operation w ≢ 15 → kindOf w v n ≡ quick
-  unfolding kindOf isStepped isAccess isLoad isStore turnsCacheOff takesBranch isJump
-  kind-other a b c d e f g = rw (
-    ne-eqb (operation w) 8 a,
-    ne-eqb (operation w) 9 b,
-    ne-eqb (operation w) 11 c,
-    ne-eqb (operation w) 12 d,
-    ne-eqb (operation w) 13 e,
-    ne-eqb (operation w) 14 f,
-    ne-eqb (operation w) 15 g,
+  pub kind-short : operation w < 11 → isStepped w ≡ false → kindOf w v n ≡ quick
+  unfolding kindOf isAccess isLoad isStore turnsCacheOff takesBranch isJump
+  kind-short h t = rw (
+    t,
+    ne-eqb (operation w) 11 (λ z. omega (arith, h, z)),
+    ne-eqb (operation w) 12 (λ z. omega (arith, h, z)),
+    ne-eqb (operation w) 13 (λ z. omega (arith, h, z)),
+    ne-eqb (operation w) 14 (λ z. omega (arith, h, z)),
+    ne-eqb (operation w) 15 (λ z. omega (arith, h, z)),
   )
 
   module _ (t : isAccess w ≡ true) where

@@ -1,38 +1,36 @@
--- The plan, a law for each line of the clock table and each phase.
--- Idea: the word's kind tells every test of `isLast` and `firstClock`; in flight the phase does.
+-- The plan in phase 0, a law for each line of the clock table; and what an action tells.
+-- Idea: the word's kind tells every test of `isLast` and `firstClock`. In flight: Laws/Flight.
 -- Assumes nothing.
-use Prim.Native.Nat.{ℕ, _+_, _*_, _/_, _%_, _≤_, _<_}
+use Prim.Native.Nat.{ℕ, _+_, _*_, _/_, _%_}
 use mathlib.Core.Path.{_≡_, refl, sym, ap, _∙_, subst}
 use mathlib.Core.Logic.{_≢_}
-use mathlib.Core.Bool.{Bool, true, false, cond, not, _&&_, _||_}
+use mathlib.Core.Bool.{Bool, true, false, cond, not, _||_}
 use mathlib.Core.List.{List}
 use lib.Dec.{eqb}
-use borrow.Author.Tests.{eq-eqb, ne-eqb, eqb-true}
+use borrow.Author.Tests.{ne-eqb}
 use native.Mathlib.Omega.{arith}
-use Rattle.trm_laws.proofs.Tests.{clash, bool-clash, test-at}
+use Rattle.trm_laws.proofs.Tests.{clash, test-at}
 use Rattle.trm_word.specs.Fields.{operation}
-use Rattle.trm_word.specs.Charge.{chargeOf}
-use Rattle.trm_reference.specs.Geometry.{paperGeometry, burst, lineOf}
+use Rattle.trm_reference.specs.Geometry.{paperGeometry, burst}
 use Rattle.trm_reference.specs.Visible.{Visible}
 use Rattle.trm_word.specs.declared.inner.address.Place.the-variants.{Memory}
-use Rattle.trm_reference.specs.Access.{isLoad, isStore, placeOfWord, targetBlock, targetLine}
-use Rattle.trm_reference.specs.Charge.{isStepped, turnsCacheOff, missCharge, uncachedCharge}
+use Rattle.trm_reference.specs.Access.{isStore, placeOfWord, targetLine}
+use Rattle.trm_reference.specs.Charge.{isStepped, missCharge}
 use Rattle.trm_cache.specs.Cache.{Cache, lineAt, holds, countDirty, firstDirty}
 use Rattle.trm_cache.proofs.Laws.Cache.{dirty-full}
 use Rattle.trm_cache.proofs.Laws.Dirty.{first-dirty}
+use Rattle.trm_core.specs.declared.record.Running.{Running}
 use Rattle.trm_core.specs.declared.record.Scalars.{Scalars}
-use Rattle.trm_core.specs.Record.{gathered, productAt, remainderAt, quotientAt, stepping, inPhase}
-use Rattle.trm_core.specs.Clock.{moved, lineFor, hits, isLast, writing, filling, missing, firstClock, advance}
-use Rattle.trm_core.specs.Rule.{dueOk}
-use Rattle.trm_core.proofs.Laws.Fit.{block-in, line-in}
-use Rattle.trm_core.proofs.Laws.Kind.{Kind, quick, second, longer, device, cached, uncached, clearing, kindOf, Is, is-of, chargeOfKind}
-use Rattle.trm_core.proofs.Laws.Phases.{charge-is, due-is, last-0, last-1, last-2, last-3, last-4, last-5}
-use Rattle.trm_core.proofs.Laws.Phases.{advance-0, advance-1, advance-2-cached, advance-2-clearing, advance-3, advance-4}
+use Rattle.trm_core.specs.Record.{gathered, inPhase, productAt, remainderAt, quotientAt}
+use Rattle.trm_core.specs.Clock.{lineFor, hits, firstClock}
+use Rattle.trm_core.proofs.Laws.Fit.{line-in}
+use Rattle.trm_core.proofs.Laws.Kind.{Kind, quick, second, longer, device, cached, uncached, clearing, kindOf, is-of, chargeOfKind}
+use Rattle.trm_core.proofs.Laws.Phases.{charge-is, last-0}
+use Rattle.trm_core.proofs.Laws.Phases.{advance-0}
 use Rattle.trm_core.proofs.Laws.Rule.{Phase, ready, arithmetic, writeBack, clearingOff, refill, waiting, due}
-use Rattle.trm_plan.specs.Plan.{Good, Ended, Does, Misses, Plan, endsBy}
-use Rattle.trm_plan.specs.declared.inner.plan.Action.{Action}
-use Rattle.trm_plan.specs.declared.inner.plan.Action.the-variants.{Finish, Step, Write, Fill, Miss, Wait, Due}
-use Rattle.trm_plan.proofs.Laws.Facts.{Facts, few-waits}
+use Rattle.trm_plan.specs.Plan.{Ended, Does, Misses, Plan}
+use Rattle.trm_plan.specs.Plan.{Finish, Step, Write, Miss, Wait, Due}
+use Rattle.trm_plan.proofs.Laws.Facts.{Facts}
 use Rattle.trm_plan.proofs.Laws.Kinds.{line-at, target-at, hits-at}
 
 unstepped : (w : ℕ) → isStepped w ≡ false → (eqb (operation w) 8 ≡ false) × (eqb (operation w) 9 ≡ false)
@@ -43,12 +41,21 @@ unstepped w q = go (eqb (operation w) 8) (eqb (operation w) 9) q
     go true b z = clash (sym z)
     go false b z = (refl, z)
 
+-- nothing in flight
+running-idle : (r : Running) → r .phase ≡ 0 → r .count ≡ 0 → r .product ≡ 0 → r .remainder ≡ 0 → r .quotient ≡ 0 → r ≡ inPhase 0 0
+running-idle r p k x y z =
+    ap (λ a. record { phase = a; count = r .count; product = r .product; remainder = r .remainder; quotient = r .quotient }) p
+    ∙ ap (λ a. record { phase = 0; count = a; product = r .product; remainder = r .remainder; quotient = r .quotient }) k
+    ∙ ap (λ a. record { phase = 0; count = 0; product = a; remainder = r .remainder; quotient = r .quotient }) x
+    ∙ ap (λ a. record { phase = 0; count = 0; product = 0; remainder = a; quotient = r .quotient }) y
+    ∙ ap (λ a. record { phase = 0; count = 0; product = 0; remainder = 0; quotient = a }) z
+
 module _ (w n : ℕ) (c : Scalars) (rs : List ℕ) (ca : Cache) (f : Facts w n c rs ca) where
   abbrev pub v : Visible
   v = gathered c rs
 
   -- a word without steps has its registers zero
-  idle-ended : isStepped w ≡ false → eqb (c .running .phase) 1 ≡ false → Ended w c rs
+  pub idle-ended : isStepped w ≡ false → eqb (c .running .phase) 1 ≡ false → Ended w c rs
   unfolding productAt remainderAt quotientAt
   idle-ended s p = let u = unstepped w s in record {
     product = f .registers .product ∙ rw (p, u .0);
@@ -69,6 +76,11 @@ module _ (w n : ℕ) (c : Scalars) (rs : List ℕ) (ca : Cache) (f : Facts w n c
         go (refill k p h e) = absurd (omega (arith, ph, p))
         go (waiting k p a b) = absurd (omega (arith, ph, p))
         go (due p e d) = absurd (omega (arith, ph, p))
+
+    pub idle-running : c .running ≡ inPhase 0 0
+    idle-running =
+        running-idle (c .running) ph ct (f .registers .product ∙ rw (test-at ph 1))
+        (f .registers .remainder ∙ rw (test-at ph 1)) (f .registers .quotient ∙ rw (test-at ph 1))
 
     ends : (k : Kind) → kindOf w v n ≡ k → isStepped w ≡ false
         → chargeOfKind paperGeometry k (isStore w) (not (hits paperGeometry w n v ca)) (lineFor paperGeometry w n v ca .dirty)
@@ -164,6 +176,7 @@ module _ (w n : ℕ) (c : Scalars) (rs : List ℕ) (ca : Cache) (f : Facts w n c
     unfolding chargeOfKind burst
     first-clean kq z = ends clearing kq (is-of w v n clearing kq .stepped) (rw z)
 
+    -- the first clock of the first write-back is a wait
     pub first-clear : kindOf w v n ≡ clearing → countDirty paperGeometry ca ≢ 0
         → Plan (Write true (firstDirty paperGeometry ca)) w n c rs ca
     unfolding chargeOfKind firstClock burst
@@ -180,193 +193,3 @@ module _ (w n : ℕ) (c : Scalars) (rs : List ℕ) (ca : Cache) (f : Facts w n c
           inside = let ok = f .lines (firstDirty paperGeometry ca) (d .0) in
               ok .inside (dirty-full (lineAt paperGeometry ca (firstDirty paperGeometry ca)) (ok .emptyClean) (d .1));
         }
-
-  -- phase 1
-  module _ (ph : c .running .phase ≡ 1) where
-    arithmetic-is : (kindOf w v n ≡ longer) × (c .running .count ≤ 32)
-    arithmetic-is = go (f .phase)
-      where
-        go : Phase paperGeometry w n (kindOf w v n) (c .running) v ca → (kindOf w v n ≡ longer) × (c .running .count ≤ 32)
-        go (ready p e) = absurd (omega (arith, ph, p))
-        go (arithmetic k p a b) = (k, b)
-        go (writeBack k p h x d) = absurd (omega (arith, ph, p))
-        go (clearingOff k p h s) = absurd (omega (arith, ph, p))
-        go (refill k p h e) = absurd (omega (arith, ph, p))
-        go (waiting k p a b) = absurd (omega (arith, ph, p))
-        go (due p e d) = absurd (omega (arith, ph, p))
-
-    pub step-ends : c .running .count + 1 ≡ chargeOf (operation w) → Plan Finish w n c rs ca
-    step-ends q = let a = arithmetic-is in
-        let all : c .running .count ≡ 32 = (let z = is-of w v n longer (a .0) .cost in omega (arith, q, z)) in (
-          last-1 paperGeometry w n v ca (c .running) ph (a .0) ∙ rw all,
-          record {
-            product = f .registers .product ∙ rw (test-at ph 1, all);
-            remainder = f .registers .remainder ∙ rw (test-at ph 1, all);
-            quotient = f .registers .quotient ∙ rw (test-at ph 1, all);
-          },
-        )
-
-    pub step-more : c .running .count + 1 ≢ chargeOf (operation w) → Plan Step w n c rs ca
-    step-more q = let a = arithmetic-is in let is = is-of w v n longer (a .0) in
-        let more : c .running .count + 1 ≢ 33 = (λ y. q (y ∙ sym (is .cost))) in (
-          record {
-            more = last-1 paperGeometry w n v ca (c .running) ph (a .0) ∙ ne-eqb (c .running .count + 1) 33 more;
-            does = λ s. advance-1 paperGeometry w n v ca c s ph;
-          },
-          record {
-            stepped = is .stepped;
-            few = omega (arith, a .1, more);
-            fresh = λ z. absurd (omega (arith, ph, z));
-            only = λ _. ph;
-            registers = f .rule;
-          },
-        )
-
-  -- phase 2
-  module _ (ph : c .running .phase ≡ 2) where
-    pub write-clears : turnsCacheOff w v ≡ true → Plan (Write true (firstDirty paperGeometry ca)) w n c rs ca
-    unfolding burst
-    write-clears off = go (f .phase)
-      where
-        go : Phase paperGeometry w n (kindOf w v n) (c .running) v ca → Plan (Write true (firstDirty paperGeometry ca)) w n c rs ca
-        go (ready p e) = absurd (omega (arith, ph, p))
-        go (arithmetic k p a b) = absurd (omega (arith, ph, p))
-        go (writeBack k p h x d) = bool-clash (turnsCacheOff w v) off (is-of w v n cached k .off)
-        go (clearingOff k p h some) = let d = first-dirty paperGeometry ca some in record {
-          goes = record {
-            more = last-2 paperGeometry w n v ca (c .running) ph;
-            does = λ s. advance-2-clearing paperGeometry w n v ca c s ph k;
-          };
-          line = d .0;
-          few = h;
-          inside = let ok = f .lines (firstDirty paperGeometry ca) (d .0) in
-              ok .inside (dirty-full (lineAt paperGeometry ca (firstDirty paperGeometry ca)) (ok .emptyClean) (d .1));
-        }
-        go (refill k p h e) = absurd (omega (arith, ph, p))
-        go (waiting k p a b) = absurd (omega (arith, ph, p))
-        go (due p e d) = absurd (omega (arith, ph, p))
-
-    pub write-evicts : turnsCacheOff w v ≡ false → Plan (Write false (targetLine paperGeometry w v n)) w n c rs ca
-    unfolding burst lineFor
-    write-evicts off = go (f .phase)
-      where
-        go : Phase paperGeometry w n (kindOf w v n) (c .running) v ca → Plan (Write false (targetLine paperGeometry w v n)) w n c rs ca
-        go (ready p e) = absurd (omega (arith, ph, p))
-        go (arithmetic k p a b) = absurd (omega (arith, ph, p))
-        go (writeBack k p h x d) = let l = line-in paperGeometry w v n (f .fit .lpos) in record {
-          goes = record {
-            more = last-2 paperGeometry w n v ca (c .running) ph;
-            does = λ s. advance-2-cached paperGeometry w n v ca c s ph k;
-          };
-          line = l;
-          few = h;
-          inside = let ok = f .lines (targetLine paperGeometry w v n) l in
-              ok .inside (dirty-full (lineAt paperGeometry ca (targetLine paperGeometry w v n)) (ok .emptyClean) d);
-        }
-        go (clearingOff k p h some) = bool-clash (turnsCacheOff w v) (is-of w v n clearing k .off) off
-        go (refill k p h e) = absurd (omega (arith, ph, p))
-        go (waiting k p a b) = absurd (omega (arith, ph, p))
-        go (due p e d) = absurd (omega (arith, ph, p))
-
-  -- phase 3
-  pub fill-goes-on : c .running .phase ≡ 3 → Plan (Fill (targetBlock paperGeometry w v n)) w n c rs ca
-  unfolding burst targetLine lineOf
-  fill-goes-on ph = record {
-    goes = record {
-      more = last-3 paperGeometry w n v ca (c .running) ph;
-      does = λ s. advance-3 paperGeometry w n v ca c s ph;
-    };
-    few = go (f .phase);
-    inside = block-in paperGeometry w v n (f .fit);
-  }
-    where
-      go : Phase paperGeometry w n (kindOf w v n) (c .running) v ca → c .running .count < 10
-      go (ready p e) = absurd (omega (arith, ph, p))
-      go (arithmetic k p a b) = absurd (omega (arith, ph, p))
-      go (writeBack k p h x d) = h
-      go (clearingOff k p h s) = h
-      go (refill k p h e) = h
-      go (waiting k p a b) = absurd (omega (arith, ph, p))
-      go (due p e d) = absurd (omega (arith, ph, p))
-
-  -- phase 4
-  module _ (ph : c .running .phase ≡ 4) where
-    waiting-is : (kindOf w v n ≡ uncached) × (c .running .count < uncachedCharge w)
-    waiting-is = go (f .phase)
-      where
-        go : Phase paperGeometry w n (kindOf w v n) (c .running) v ca → (kindOf w v n ≡ uncached) × (c .running .count < uncachedCharge w)
-        go (ready p e) = absurd (omega (arith, ph, p))
-        go (arithmetic k p a b) = absurd (omega (arith, ph, p))
-        go (writeBack k p h x d) = absurd (omega (arith, ph, p))
-        go (clearingOff k p h s) = absurd (omega (arith, ph, p))
-        go (refill k p h e) = absurd (omega (arith, ph, p))
-        go (waiting k p a b) = (k, b)
-        go (due p e d) = absurd (omega (arith, ph, p))
-
-    pub wait-ends : c .running .count + 1 ≡ uncachedCharge w → Plan Finish w n c rs ca
-    wait-ends q = (
-      last-4 paperGeometry w n v ca (c .running) ph ∙ eq-eqb (c .running .count + 1) (uncachedCharge w) q,
-      idle-ended (is-of w v n uncached (waiting-is .0) .stepped) (test-at ph 1),
-    )
-
-    pub wait-more : c .running .count + 1 ≢ uncachedCharge w → Plan Wait w n c rs ca
-    wait-more q = (
-      record {
-        more = last-4 paperGeometry w n v ca (c .running) ph ∙ ne-eqb (c .running .count + 1) (uncachedCharge w) q;
-        does = λ s. advance-4 paperGeometry w n v ca c s ph;
-      },
-      few-waits w n c rs (waiting-is .0) (waiting-is .1),
-    )
-
-  -- phase 5: no word that has steps is due
-  pub due-ends : c .running .phase ≢ 0 → c .running .phase ≢ 1 → c .running .phase ≢ 2 → c .running .phase ≢ 3 → c .running .phase ≢ 4
-      → Plan Finish w n c rs ca
-  due-ends p0 p1 p2 p3 p4 = go (f .phase)
-    where
-      short : (k : Kind) → kindOf w v n ≡ k → dueOk paperGeometry w n v ca ≡ true → isStepped w ≡ false
-      short quick kq d = is-of w v n quick kq .stepped
-      short second kq d = is-of w v n second kq .stepped
-      short longer kq d = longer-due (isLoad w) (sym (due-is paperGeometry w n v ca longer kq) ∙ d)
-        where
-          longer-due : (t : Bool) → (t && false) || false ≡ true → isStepped w ≡ false
-          longer-due true z = clash z
-          longer-due false z = clash z
-      short device kq d = is-of w v n device kq .stepped
-      short cached kq d = is-of w v n cached kq .stepped
-      short uncached kq d = is-of w v n uncached kq .stepped
-      short clearing kq d = is-of w v n clearing kq .stepped
-
-      go : Phase paperGeometry w n (kindOf w v n) (c .running) v ca → Plan Finish w n c rs ca
-      go (ready p e) = absurd (p0 p)
-      go (arithmetic k p a b) = absurd (p1 p)
-      go (writeBack k p h x d) = absurd (p2 p)
-      go (clearingOff k p h s) = absurd (p2 p)
-      go (refill k p h e) = absurd (p3 p)
-      go (waiting k p a b) = absurd (p4 p)
-      go (due p e d) = (last-5 paperGeometry w n v ca (c .running) p, idle-ended (short (kindOf w v n) refl d) (test-at p 1))
-
--- the plan of an action that is known
-pub plan-at : (w n : ℕ) (c : Scalars) (rs : List ℕ) (ca : Cache) (a b : Action) → Good w n c rs ca → a ≡ b → Plan a w n c rs ca
-    → Plan b w n c rs ca
-plan-at w n c rs ca a b g q p = subst (λ x. Plan x w n c rs ca) q p
-
--- an action ends the word iff the clock is its last
-pub plan-last : (w n : ℕ) (c : Scalars) (rs : List ℕ) (ca : Cache) (a : Action) → Good w n c rs ca → Plan a w n c rs ca
-    → isLast paperGeometry w n (c .running) (gathered c rs) ca ≡ endsBy a
-plan-last w n c rs ca Finish g p = p .0
-plan-last w n c rs ca Step g p = p .0 .more
-plan-last w n c rs ca (Write clears l) g p = p .goes .more
-plan-last w n c rs ca (Fill b) g p = p .goes .more
-plan-last w n c rs ca (Miss l) g p = p .goes .more
-plan-last w n c rs ca Wait g p = p .0 .more
-plan-last w n c rs ca Due g p = p .more
-
-pub plan-ends : (w n : ℕ) (c : Scalars) (rs : List ℕ) (ca : Cache) (a : Action) → Good w n c rs ca → Plan a w n c rs ca
-    → endsBy a ≡ true → Ended w c rs
-plan-ends w n c rs ca Finish g p e = p .1
-plan-ends w n c rs ca Step g p e = clash e
-plan-ends w n c rs ca (Write clears l) g p e = clash e
-plan-ends w n c rs ca (Fill b) g p e = clash e
-plan-ends w n c rs ca (Miss l) g p e = clash e
-plan-ends w n c rs ca Wait g p e = clash e
-plan-ends w n c rs ca Due g p e = clash e

@@ -5,7 +5,7 @@ ghost use mathlib.Core.Path.{_≡_};
 ghost use mathlib.Core.Bool.{true};
 ghost use Prim.Native.Nat.{_<_};
 ghost use Rattle.trm_word.specs.Address.{storeLengthOk};
-ghost use Rattle.trm_reference.specs.Access.{isAccess, deviceAnswer, answerOf};
+ghost use Rattle.trm_reference.specs.Access.{deviceAnswer, answerOf};
 ghost use Rattle.trm_core.specs.Record.{gathered};
 use trm_core::record::Scalars;
 use trm_word::inner::address::Place;
@@ -13,16 +13,6 @@ use trm_word::inner::address::Place;
 pub struct Answered {
     pub byte: u8,
     pub word: u32,
-}
-
-// 12 LD or 13 ST.
-fn is_access(w: u32) -> bool
-    ensures { λ r. ⌜ r ≡ isAccess w ⌝ }
-{
-    if crate::inner::reading::is_load(w) {
-        return true;
-    }
-    crate::inner::reading::is_store(w)
 }
 
 // The answer of an access to device d: a read moves the input word, a write R.d.
@@ -49,7 +39,7 @@ pub fn answer(c: Scalars, regs: &[u32; 16], w: u32, n: u64, input: u32) -> Answe
     ensures { λ r. ⌜ (r .byte ≡ answerOf w (gathered c (now (regs .entry))) n input .byte)
         × (r .word ≡ answerOf w (gathered c (now (regs .entry))) n input .word) ⌝ }
 {
-    if !is_access(w) {
+    if !crate::inner::reading::is_access(w) {
         return Answered { byte: 0, word: 0 };
     }
     let place = crate::inner::reading::place_of_word(c, regs, w, n);

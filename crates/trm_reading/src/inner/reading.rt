@@ -4,11 +4,10 @@
 ghost use mathlib.Core.Path.{_≡_};
 ghost use mathlib.Core.Bool.{true};
 ghost use Prim.Native.Nat.{_<_};
-ghost use lib.ListN.{length, getD};
 ghost use Rattle.trm_word.specs.Fields.{movesHigh};
 ghost use Rattle.trm_word.specs.Address.{storeLengthOk};
 ghost use Rattle.trm_reference.specs.Visible.{registerIndex, register, cacheOn, wordAt};
-ghost use Rattle.trm_reference.specs.Access.{isLoad, isStore, addressOf, placeOfWord, stored};
+ghost use Rattle.trm_reference.specs.Access.{isLoad, isStore, isAccess, addressOf, placeOfWord, target, stored};
 ghost use Rattle.trm_reference.specs.Execute.{operandA, operandB, branchTaken};
 ghost use Rattle.trm_reference.specs.Charge.{turnsCacheOff};
 ghost use Rattle.trm_core.specs.Record.{gathered};
@@ -26,11 +25,11 @@ pub fn word_at(program: &[u32], pc: u64) -> u32
 }
 
 // Where R.r stands in the two banks.
-pub fn register_index(status: u32, r: u32) -> usize
+pub fn register_index(status: u64, r: u32) -> usize
     requires { ⌜ r < 8 ⌝ }
     ensures { λ i. ⌜ (i ≡ registerIndex status r) × (i < 16) ⌝ }
 {
-    (status / 4 % 2 * 8 + r) as usize
+    (status / 4 % 2 * 8 + r as u64) as usize
 }
 
 // R.r of the bank in use.
@@ -59,13 +58,13 @@ fn moves_high(w: u32) -> bool
 pub fn operand_a(c: Scalars, regs: &[u32; 16], w: u32) -> u32
     ensures { λ r. ⌜ r ≡ operandA w (gathered c (now (regs .entry))) ⌝ }
 {
+    if w / 1024 % 2 != 1 {
+        return w % 1024;
+    }
     if moves_high(w) {
         return c.h;
     }
-    if w / 1024 % 2 == 1 {
-        return register_at(c, regs, w % 8);
-    }
-    w % 1024
+    register_at(c, regs, w % 8)
 }
 
 // B, R.d.
@@ -111,6 +110,28 @@ pub fn is_store(w: u32) -> bool
     ensures { λ r. ⌜ r ≡ isStore w ⌝ }
 {
     w / 0x4000 % 16 == 13
+}
+
+// 12 and 13.
+pub fn is_access(w: u32) -> bool
+    ensures { λ r. ⌜ r ≡ isAccess w ⌝ }
+{
+    if is_load(w) {
+        return true;
+    }
+    is_store(w)
+}
+
+// The word of memory that LD and ST access.
+pub fn target_of(c: Scalars, regs: &[u32; 16], w: u32, n: u64) -> u64
+    requires { ⌜ storeLengthOk n ≡ true ⌝ }
+    ensures { λ r. ⌜ r ≡ target w (gathered c (now (regs .entry))) n ⌝ }
+{
+    let place = place_of_word(c, regs, w, n);
+    match place {
+        Place::Device(_) => 0,
+        Place::Memory(a) => a,
+    }
 }
 
 // Status bit 3.

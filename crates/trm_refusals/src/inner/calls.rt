@@ -1,12 +1,14 @@
-// The table for each call: reset, one clock, a run.
+// The table for each call: reset, one clock, a run, look, copy, watch.
 // Paper: "Checks go down the table; a call skips rows about things it does not take."
-// One test for each row, in the table's order.
+// A call that takes the record goes down rows 3, 4 and 5 first; then one test for each row of its own, in the table's order.
 ghost use mathlib.Core.Path.{_≡_};
 ghost use Rattle.trm_reference.specs.Geometry.{paperGeometry};
 ghost use Rattle.trm_cache.specs.Cache.{cache};
 ghost use Rattle.trm_core.specs.Record.{whole};
-ghost use Rattle.trm_core.specs.Refusals.{resetRefusal, clockRefusal, runRefusal};
+ghost use Rattle.trm_core.specs.Refusals.{resetRefusal, clockRefusal, runRefusal, lookRefusal, copyRefusal, watchRefusal};
 ghost use Rattle.trm_refusals.specs.Numbers.{numberOf};
+use crate::inner::record;
+use crate::inner::rows;
 use crate::refusal::Refusal;
 use trm_core::record::Scalars;
 
@@ -35,28 +37,14 @@ pub fn clock_refusal(
     ensures { λ r. ⌜ numberOf r ≡ clockRefusal paperGeometry (now (program .entry)) (whole c (now (regs .entry))
         (cache (now (full .entry)) (now (dirty .entry)) (now (block .entry)) (now (words .entry)))) (now (store .entry)) line ⌝ }
 {
-    if !super::rows::program_ok(program) {
-        return Refusal::Program;
-    }
-    if !super::rows::store_ok(c.size, store) {
-        return Refusal::Store; // of a clock
-    }
-    if !trm_rule::inner::record::record_ok(
-        c,
-        program,
-        regs,
-        full,
-        dirty,
-        block,
-        words,
-        store.len() as u64,
-    ) {
-        return Refusal::Record;
+    let refused = record::record_refusal(c, program, regs, full, dirty, block, words, store);
+    if !record::accepted(refused) {
+        return refused;
     }
     if line > 7 {
         return Refusal::Lines;
     }
-    if super::rows::clocks_refused(c.counts.clocks, 1) {
+    if rows::clocks_refused(c.counts.clocks, 1) {
         return Refusal::Clocks;
     }
     Refusal::Accepted
@@ -81,32 +69,79 @@ pub fn run_refusal(
         (cache (now (full .entry)) (now (dirty .entry)) (now (block .entry)) (now (words .entry))))
         (now (store .entry)) (now (lines .entry)) (now (inputs .entry)) (now (bytes .entry)) (now (outs .entry)) ⌝ }
 {
-    if !super::rows::program_ok(program) {
-        return Refusal::Program;
+    let refused = record::record_refusal(c, program, regs, full, dirty, block, words, store);
+    if !record::accepted(refused) {
+        return refused;
     }
-    if !super::rows::store_ok(c.size, store) {
-        return Refusal::Store;
-    }
-    if !trm_rule::inner::record::record_ok(
-        c,
-        program,
-        regs,
-        full,
-        dirty,
-        block,
-        words,
-        store.len() as u64,
-    ) {
-        return Refusal::Record;
-    }
-    if super::rows::lines_refused(lines, inputs) {
+    if rows::lines_refused(lines, inputs) {
         return Refusal::Lines;
     }
-    if super::rows::buffers_refused(lines, bytes, outs) {
+    if rows::buffers_refused(lines, bytes, outs) {
         return Refusal::Buffers;
     }
-    if super::rows::clocks_refused(c.counts.clocks, lines.len() as u64) {
+    if rows::clocks_refused(c.counts.clocks, lines.len() as u64) {
         return Refusal::Clocks;
+    }
+    Refusal::Accepted
+}
+
+// A look at one address.
+pub fn look_refusal(
+    c: Scalars,
+    program: &[u32],
+    regs: &[u32; 16],
+    full: &[u8; 16],
+    dirty: &[u8; 16],
+    block: &[u16; 16],
+    words: &[u32; 128],
+    store: &[u32],
+    address: u32,
+) -> Refusal
+    ensures { λ r. ⌜ numberOf r ≡ lookRefusal paperGeometry (now (program .entry)) (whole c (now (regs .entry))
+        (cache (now (full .entry)) (now (dirty .entry)) (now (block .entry)) (now (words .entry)))) (now (store .entry)) address ⌝ }
+{
+    let refused = record::record_refusal(c, program, regs, full, dirty, block, words, store);
+    if !record::accepted(refused) {
+        return refused;
+    }
+    if address > 0xFFBF {
+        return Refusal::Place;
+    }
+    Refusal::Accepted
+}
+
+// A copy, with the buffer that it would fill.
+pub fn copy_refusal(
+    c: Scalars,
+    program: &[u32],
+    regs: &[u32; 16],
+    full: &[u8; 16],
+    dirty: &[u8; 16],
+    block: &[u16; 16],
+    words: &[u32; 128],
+    store: &[u32],
+    buffer: &[u32],
+) -> Refusal
+    ensures { λ r. ⌜ numberOf r ≡ copyRefusal paperGeometry (now (program .entry)) (whole c (now (regs .entry))
+        (cache (now (full .entry)) (now (dirty .entry)) (now (block .entry)) (now (words .entry))))
+        (now (store .entry)) (now (buffer .entry)) ⌝ }
+{
+    let refused = record::record_refusal(c, program, regs, full, dirty, block, words, store);
+    if !record::accepted(refused) {
+        return refused;
+    }
+    if buffer.len() != store.len() {
+        return Refusal::Buffers;
+    }
+    Refusal::Accepted
+}
+
+// A watch takes a device.
+pub fn watch_refusal(device: u32) -> Refusal
+    ensures { λ r. ⌜ numberOf r ≡ watchRefusal device ⌝ }
+{
+    if device > 63 {
+        return Refusal::Place;
     }
     Refusal::Accepted
 }

@@ -51,14 +51,14 @@ pub fn program_ok(program: &[u32]) -> bool
 }
 
 // Row 4: "length no power of two in 64-32,768, or other than at reset".
-pub fn store_ok(size: u64, store: &[u32]) -> bool
+pub fn store_ok(size: u32, store: &[u32]) -> bool
     ensures { λ r. ⌜ r ≡ (storeLengthOk (length (now (store .entry))) && eqb (length (now (store .entry))) size) ⌝ }
 {
     let n = store.len() as u64;
     if !trm_word::inner::address::store_length_ok(n) {
         return false;
     }
-    n == size
+    n == size as u64
 }
 
 // Row 6: "other length than the input words, over 65,536, or a byte above 7".

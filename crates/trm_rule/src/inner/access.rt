@@ -6,7 +6,7 @@ ghost use mathlib.Core.Bool.{true};
 ghost use Prim.Native.Nat.{_<_};
 ghost use Rattle.trm_word.specs.Address.{storeLengthOk};
 ghost use Rattle.trm_reference.specs.Geometry.{paperGeometry};
-ghost use Rattle.trm_reference.specs.Access.{isMemory, memoryIndex, isAccess, toMemory, toDevice, targetBlock, targetLine};
+ghost use Rattle.trm_reference.specs.Access.{isMemory, toMemory, toDevice, targetBlock, targetLine};
 ghost use Rattle.trm_reference.specs.Charge.{isStepped, isJump, takesBranch, throughCache, pastCache};
 ghost use Rattle.trm_cache.specs.Cache.{cache};
 ghost use Rattle.trm_core.specs.Record.{gathered};
@@ -24,32 +24,12 @@ fn is_memory(place: Place) -> bool
     }
 }
 
-// Which word of the store a place is.
-fn memory_index(place: Place) -> u64
-    ensures { λ r. ⌜ r ≡ memoryIndex place ⌝ }
-{
-    match place {
-        Place::Device(_) => 0,
-        Place::Memory(a) => a,
-    }
-}
-
-// 12 and 13.
-fn is_access(w: u32) -> bool
-    ensures { λ r. ⌜ r ≡ isAccess w ⌝ }
-{
-    if trm_reading::inner::reading::is_load(w) {
-        return true;
-    }
-    trm_reading::inner::reading::is_store(w)
-}
-
 // 12 and 13 to memory.
 pub fn to_memory(c: Scalars, regs: &[u32; 16], w: u32, n: u64) -> bool
     requires { ⌜ storeLengthOk n ≡ true ⌝ }
     ensures { λ r. ⌜ r ≡ toMemory w (gathered c (now (regs .entry))) n ⌝ }
 {
-    if !is_access(w) {
+    if !trm_reading::inner::reading::is_access(w) {
         return false;
     }
     is_memory(trm_reading::inner::reading::place_of_word(c, regs, w, n))
@@ -60,7 +40,7 @@ pub fn to_device(c: Scalars, regs: &[u32; 16], w: u32, n: u64) -> bool
     requires { ⌜ storeLengthOk n ≡ true ⌝ }
     ensures { λ r. ⌜ r ≡ toDevice w (gathered c (now (regs .entry))) n ⌝ }
 {
-    if !is_access(w) {
+    if !trm_reading::inner::reading::is_access(w) {
         return false;
     }
     !is_memory(trm_reading::inner::reading::place_of_word(c, regs, w, n))
@@ -71,7 +51,7 @@ pub fn target_block(c: Scalars, regs: &[u32; 16], w: u32, n: u64) -> u64
     requires { ⌜ storeLengthOk n ≡ true ⌝ }
     ensures { λ r. ⌜ r ≡ targetBlock paperGeometry w (gathered c (now (regs .entry))) n ⌝ }
 {
-    memory_index(trm_reading::inner::reading::place_of_word(c, regs, w, n)) / 8
+    trm_reading::inner::reading::target_of(c, regs, w, n) / 8
 }
 
 // The line of the access.

@@ -1,14 +1,14 @@
 -- One step of the multiplier and of the divider, from the registers in flight.
 -- Idea: what stands before the first step is what the definition gives after no steps; then the claims of trm_alu say the rest.
 -- Assumes nothing.
---   mul-next, div-next   the step's register        multiplies, divides   a step of w is one of its own unit
+--   mul-first, mul-next, div-first, div-next   the step's registers        multiplies, divides   a step of w is one of its own unit
 use Prim.Native.Nat.{ℕ, _+_, _^_, _<_}
 use mathlib.Core.Path.{_≡_, sym, ap, _∙_}
 use mathlib.Core.Logic.{_≢_}
-use mathlib.Core.Bool.{Bool, true, cond, _||_}
+use mathlib.Core.Bool.{Bool, true, false, _||_}
 use lib.Dec.{eqb}
 use borrow.Author.Tests.{eqb-true, eq-eqb, ne-eqb}
-use native.Mathlib.Decide.{ℕ-discrete}
+use native.Mathlib.Omega.{arith}
 use Rattle.trm_laws.proofs.Tests.{test-at}
 use Rattle.trm_word.specs.Fields.{operation}
 use Rattle.trm_alu.specs.declared.inner.divide.Divider.{Divider}
@@ -23,27 +23,18 @@ use Rattle.trm_core.specs.Record.{productAt, remainderAt, quotientAt, stepping}
 use Rattle.trm_core.proofs.Laws.Rule.{registers-from}
 use Rattle.trm_steps.specs.Steps.{Steps, Multiplies, Divides, multiplied, dividedBy}
 
-pub mul-next : (r : Running) (a b : ℕ) → a < 2 ^ 32 → b < 2 ^ 32 → Multiplies r a b
-    → mulStep (cond (eqb (r .phase) 0) a (r .product)) b (eqb (r .count) 31) ≡ mulAfter a b (r .count + 1)
-mul-next r a b ha hb k =
-    ap (λ (x : ℕ). mulStep x b (eqb (r .count) 31)) (before (ℕ-discrete (r .phase) 0))
-    ∙ theorems .mul-steps a b (r .count) ha hb (k .few)
-  where
-    before : Dec (r .phase ≡ 0) → cond (eqb (r .phase) 0) a (r .product) ≡ mulAfter a b (r .count)
-    before (yes e) = rw (eq-eqb (r .phase) 0 e, k .fresh e) (sym (theorems .mul-starts a b ha hb))
-    before (no z) = rw (ne-eqb (r .phase) 0 z) (k .product z)
+module _ (a b : ℕ) (hb : b < 2 ^ 32) where
+  pub mul-first : a < 2 ^ 32 → mulStep a b false ≡ mulAfter a b 1
+  mul-first ha = ap (λ (x : ℕ). mulStep x b false) (sym (theorems .mul-starts a b ha hb)) ∙ theorems .mul-steps a b 0 ha hb (omega arith)
 
-pub div-next : (r : Running) (a b : ℕ) → b < 2 ^ 32 → Divides r a b → (d : Divider)
-    → d ≡ cond (eqb (r .phase) 0) (dividerAt a b 0) (record { rem = r .remainder; quot = r .quotient })
-    → divStep (d .rem) (d .quot) a ≡ dividerAt a b (r .count + 1)
-div-next r a b hb k d is =
-    ap (λ (x : Divider). divStep (x .rem) (x .quot) a) (is ∙ before (ℕ-discrete (r .phase) 0))
-    ∙ theorems .div-steps a b (r .count) hb (k .few)
-  where
-    before : Dec (r .phase ≡ 0)
-        → cond (eqb (r .phase) 0) (dividerAt a b 0) (record { rem = r .remainder; quot = r .quotient }) ≡ dividerAt a b (r .count)
-    before (yes e) = rw (eq-eqb (r .phase) 0 e, k .fresh e)
-    before (no z) = rw (ne-eqb (r .phase) 0 z, k .remainder z, k .quotient z)
+  pub mul-next : (k x : ℕ) → a < 2 ^ 32 → k < 32 → x ≡ mulAfter a b k → mulStep x b (eqb k 31) ≡ mulAfter a b (k + 1)
+  mul-next k x ha few is = ap (λ (y : ℕ). mulStep y b (eqb k 31)) is ∙ theorems .mul-steps a b k ha hb few
+
+  pub div-first : (d : Divider) → d ≡ dividerAt a b 0 → divStep (d .rem) (d .quot) a ≡ dividerAt a b 1
+  div-first d is = ap (λ (x : Divider). divStep (x .rem) (x .quot) a) is ∙ theorems .div-steps a b 0 hb (omega arith)
+
+  pub div-next : (k x y : ℕ) → k < 32 → x ≡ divRem a b k → y ≡ divQuot a b k → divStep x y a ≡ dividerAt a b (k + 1)
+  div-next k x y few is also = rw (is, also) (theorems .div-steps a b k hb few)
 
 -- a word that steps and is not MUL is DIV
 divides-if : (w : ℕ) → isStepped w ≡ true → operation w ≢ 8 → operation w ≡ 9
@@ -52,16 +43,18 @@ divides-if w t z = eqb-true (operation w) 9 (ap (λ (x : Bool). x || eqb (operat
 
 module _ (w : ℕ) (v : Visible) where
   pub multiplies : (r : Running) → Steps w r v → operation w ≡ 8 → Multiplies r (operandA w v) (operandB w v)
-  unfolding productAt
+  unfolding productAt remainderAt quotientAt
   multiplies r k e =
       record {
         few = k .few;
         fresh = k .fresh;
         product = λ z. registers-from w r v (k .registers) .product ∙ rw (eq-eqb (r .phase) 1 (k .only z), test-at e 8);
+        remainder = λ z. registers-from w r v (k .registers) .remainder ∙ rw (eq-eqb (r .phase) 1 (k .only z), test-at e 9);
+        quotient = λ z. registers-from w r v (k .registers) .quotient ∙ rw (eq-eqb (r .phase) 1 (k .only z), test-at e 9);
       }
 
   pub divides : (r : Running) → Steps w r v → operation w ≢ 8 → Divides r (operandA w v) (operandB w v)
-  unfolding remainderAt quotientAt
+  unfolding productAt remainderAt quotientAt
   divides r k z =
       let e = divides-if w (k .stepped) z in
       record {
@@ -69,6 +62,7 @@ module _ (w : ℕ) (v : Visible) where
         fresh = k .fresh;
         remainder = λ y. registers-from w r v (k .registers) .remainder ∙ rw (eq-eqb (r .phase) 1 (k .only y), test-at e 9);
         quotient = λ y. registers-from w r v (k .registers) .quotient ∙ rw (eq-eqb (r .phase) 1 (k .only y), test-at e 9);
+        product = λ y. registers-from w r v (k .registers) .product ∙ rw (eq-eqb (r .phase) 1 (k .only y), test-at e 8);
       }
 
   pub multiplied-is : (k : ℕ) → operation w ≡ 8 → multiplied (operandA w v) (operandB w v) k ≡ stepping w v k

@@ -19,7 +19,7 @@ pub fn is_stalled(line: u8) -> bool
 }
 
 // Line 0 enabled and high.
-fn raised_first(status: u32, line: u8) -> bool
+fn raised_first(status: u64, line: u8) -> bool
     ensures { λ r. ⌜ r ≡ lineRaised 0 status line ⌝ }
 {
     if status % 2 != 1 {
@@ -29,7 +29,7 @@ fn raised_first(status: u32, line: u8) -> bool
 }
 
 // Line 1 enabled and high.
-fn raised_second(status: u32, line: u8) -> bool
+fn raised_second(status: u64, line: u8) -> bool
     ensures { λ r. ⌜ r ≡ lineRaised 1 status line ⌝ }
 {
     if status / 2 % 2 != 1 {
@@ -39,7 +39,7 @@ fn raised_second(status: u32, line: u8) -> bool
 }
 
 // Where the interrupt goes, 2 or 3; 0 if none is taken.
-pub fn interrupt_chosen(status: u32, line: u8) -> u64
+pub fn interrupt_chosen(status: u64, line: u8) -> u64
     ensures { λ r. ⌜ (r ≡ interruptChosen status line) × (r < 4) ⌝ }
 {
     if status / 4 % 2 == 1 {
@@ -55,7 +55,7 @@ pub fn interrupt_chosen(status: u32, line: u8) -> u64
 }
 
 // The status bits with another mode.
-pub fn with_mode(mode: u32, status: u32) -> u32
+pub fn with_mode(mode: u64, status: u64) -> u64
     requires { ⌜ mode ≤ 1 ⌝ }
     ensures { λ r. ⌜ r ≡ withMode mode status ⌝ }
 {

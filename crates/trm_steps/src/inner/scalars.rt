@@ -64,3 +64,14 @@ pub fn settle(c: Scalars) -> Scalars
     next.counts.clocks = clocks;
     next
 }
+
+// One clock more, when nothing was in flight: it stays so.
+pub fn tick(c: Scalars) -> Scalars
+    requires { ⌜ (countsOk (c .counts) ≡ true) × (c .running ≡ inPhase 0 0) ⌝ }
+    ensures { λ r. ⌜ r ≡ ended c (gathered c []) ⌝ }
+{
+    let mut next = c;
+    let clocks = next.counts.clocks + 1;
+    next.counts.clocks = clocks;
+    next
+}

@@ -1,16 +1,10 @@
 -- The proof of trm_calls::calls::clock.
-use Rattle.trm_calls.proofs.Laws.Accepted.{code-zero}
-use borrow.Author.Tests.{not-true, not-false, eqb-true}
-use mathlib.Core.Path.{sym, _∙_}
+use Rattle.trm_refusals.proofs.Laws.{code-zero}
+use borrow.Author.Tests.{not-true, not-false}
 use Rattle.trm_calls.specs.Outcome.{clockGives}
 use borrow.Author.Needs.{needs}
 use Rattle.trm_calls.proofs.calls.clock.Statement.{statement}
 use Rattle.trm_calls.proofs.calls.clock.Tie as tie
-use Rattle.trm_calls.proofs.calls.clock.Reads as reads
-use Rattle.trm_calls.proofs.calls.clock.Lts as lts
-use Rattle.trm_calls.proofs.calls.accepted.Reads as accepted-reads
-use Rattle.trm_calls.proofs.calls.clock_refused.Reads as clock-refused-reads
-use Rattle.trm_engine.proofs.machine.Machine.clock.Reads as clock-reads
 
 clock-refused-requires : tie.Need-clock-refused-requires
 clock-refused-requires c κs = search needs

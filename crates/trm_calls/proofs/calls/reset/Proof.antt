@@ -1,14 +1,12 @@
 -- The proof of trm_calls::calls::reset.
+use mathlib.Core.Path.{sym, ap, _∙_}
+use lib.Dec.{eqb}
 use borrow.Author.Tests.{not-true, not-false}
+use Rattle.trm_refusals.proofs.Laws.{reset-short}
 use Rattle.trm_calls.specs.Outcome.{resetGives}
 use borrow.Author.Needs.{needs}
 use Rattle.trm_calls.proofs.calls.reset.Statement.{statement}
 use Rattle.trm_calls.proofs.calls.reset.Tie as tie
-use Rattle.trm_calls.proofs.calls.reset.Reads as reads
-use Rattle.trm_calls.proofs.calls.reset.Lts as lts
-use Rattle.trm_calls.proofs.calls.accepted.Reads as accepted-reads
-use Rattle.trm_calls.proofs.inner.start.zero_record.Reads as zero-record-reads
-use Rattle.trm_refusals.proofs.inner.calls.reset_refusal.Reads as reset-refusal-reads
 
 reset-refusal-requires : tie.Need-reset-refusal-requires
 reset-refusal-requires c κs = search needs
@@ -41,7 +39,10 @@ returns c = record {
 }
 
 zero-record-requires-2 : tie.Need-zero-record-requires-2
-zero-record-requires-2 c κs = search needs
+zero-record-requires-2 c κs =
+    reset-short _
+    (ap (λ k. eqb k 0) (sym (c .before .before .reset-refusal .ensures)) ∙ sym (c .before .accepted .ensures)
+    ∙ not-false (c .before .accepted .result) (c .if1 .left))
 
 returns-2 : tie.Need-returns-2
 unfolding resetGives

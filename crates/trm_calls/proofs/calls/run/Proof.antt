@@ -1,15 +1,10 @@
 -- The proof of trm_calls::calls::run.
 use borrow.Author.Tests.{not-true, not-false}
 use Rattle.trm_calls.specs.Outcome.{runGives}
-use Rattle.trm_calls.proofs.Laws.Accepted.{code-zero}
+use Rattle.trm_refusals.proofs.Laws.{code-zero}
 use borrow.Author.Needs.{needs}
 use Rattle.trm_calls.proofs.calls.run.Statement.{statement}
 use Rattle.trm_calls.proofs.calls.run.Tie as tie
-use Rattle.trm_calls.proofs.calls.run.Reads as reads
-use Rattle.trm_calls.proofs.calls.run.Lts as lts
-use Rattle.trm_calls.proofs.calls.accepted.Reads as accepted-reads
-use Rattle.trm_calls.proofs.calls.run_refused.Reads as run-refused-reads
-use Rattle.trm_engine.proofs.machine.Machine.run.Reads as run-reads
 
 run-refused-requires : tie.Need-run-refused-requires
 run-refused-requires c κs = search needs

@@ -3,9 +3,6 @@ use Rattle.trm_core.specs.Record.{resetOf}
 use borrow.Author.Needs.{needs}
 use Rattle.trm_calls.proofs.inner.start.zero_record.Statement.{statement}
 use Rattle.trm_calls.proofs.inner.start.zero_record.Tie as tie
-use Rattle.trm_calls.proofs.inner.start.zero_record.Reads as reads
-use Rattle.trm_calls.proofs.inner.start.zero_record.Lts as lts
-use Rattle.trm_calls.proofs.inner.start.zero_scalars.Reads as zero-scalars-reads
 
 zero-scalars-requires : tie.Need-zero-scalars-requires
 zero-scalars-requires c κs = search needs

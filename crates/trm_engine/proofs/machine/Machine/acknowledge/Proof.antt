@@ -2,9 +2,6 @@
 use borrow.Author.Needs.{needs}
 use Rattle.trm_engine.proofs.machine.Machine.acknowledge.Statement.{statement}
 use Rattle.trm_engine.proofs.machine.Machine.acknowledge.Tie as tie
-use Rattle.trm_engine.proofs.machine.Machine.acknowledge.Reads as reads
-use Rattle.trm_engine.proofs.machine.Machine.acknowledge.Lts as lts
-use Rattle.trm_steps.proofs.inner.interrupt.take_interrupt.Reads as take-interrupt-reads
 
 take-interrupt-requires : tie.Need-take-interrupt-requires
 take-interrupt-requires c κs = search needs

@@ -3,9 +3,6 @@ use Rattle.trm_engine.proofs.Laws.One.{one-free, one-ran}
 use borrow.Author.Needs.{needs}
 use Rattle.trm_engine.proofs.machine.Machine.clock.Statement.{statement}
 use Rattle.trm_engine.proofs.machine.Machine.clock.Tie as tie
-use Rattle.trm_engine.proofs.machine.Machine.clock.Reads as reads
-use Rattle.trm_engine.proofs.machine.Machine.clock.Lts as lts
-use Rattle.trm_engine.proofs.machine.Machine.run.Reads as run-reads
 
 slice-aggregate-run : tie.Need-slice-aggregate-run
 slice-aggregate-run c = search needs

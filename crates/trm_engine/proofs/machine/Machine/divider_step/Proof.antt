@@ -2,11 +2,6 @@
 use borrow.Author.Needs.{needs}
 use Rattle.trm_engine.proofs.machine.Machine.divider_step.Statement.{statement}
 use Rattle.trm_engine.proofs.machine.Machine.divider_step.Tie as tie
-use Rattle.trm_engine.proofs.machine.Machine.divider_step.Reads as reads
-use Rattle.trm_engine.proofs.machine.Machine.divider_step.Lts as lts
-use Rattle.trm_reading.proofs.inner.reading.operand_a.Reads as operand-a-reads
-use Rattle.trm_reading.proofs.inner.reading.operand_b.Reads as operand-b-reads
-use Rattle.trm_steps.proofs.inner.steps.divider_step.Reads as divider-step-reads
 
 operand-a-requires : tie.Need-operand-a-requires
 operand-a-requires c κs = search needs

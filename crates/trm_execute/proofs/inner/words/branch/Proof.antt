@@ -1,18 +1,21 @@
 -- The proof of trm_execute::inner::words::branch.
-use Rattle.trm_reference.specs.Execute.{branched}
+use Rattle.trm_core.proofs.Laws.Rule.{widths-from}
+use Rattle.trm_core.specs.Record.{gathered}
+use Rattle.trm_execute.proofs.Laws.{execute-taken}
 use borrow.Author.Needs.{needs}
 use Rattle.trm_execute.proofs.inner.words.branch.Statement.{statement}
 use Rattle.trm_execute.proofs.inner.words.branch.Tie as tie
 
-branch-pc-requires : tie.Need-branch-pc-requires
-branch-pc-requires c κs = search needs
+branch-target-requires : tie.Need-branch-target-requires
+branch-target-requires c κs = widths-from _ (c .pre .0) .pc
 
 go-to-requires : tie.Need-go-to-requires
 go-to-requires c κs = search needs
 
 returns : tie.Need-returns
-unfolding branched
-returns c = rw (c .go-to .ensures, c .before .branch-pc .ensures)
+returns c = let s = c .before .before in let e = execute-taken (s .args .w) (gathered (s .args .c) (s .args .regs .now)) 0
+    (s .pre .2) (s .pre .3) in
+    (rw (e, ← c .before .branch-target .ensures) (c .go-to .ensures), rw e)
 
 pub branch-spec : {M : Type 1} → statement M
-branch-spec = tie.close (tie.spec branch-pc-requires go-to-requires returns)
+branch-spec = tie.close (tie.spec branch-target-requires go-to-requires returns)

@@ -2,6 +2,8 @@
 use borrow.Author.Tests.{eq-eqb, ne-eqb}
 use Rattle.trm_reference.specs.Execute.{jumped, returned}
 use Rattle.trm_core.proofs.Laws.Rule.{widths-from}
+use Rattle.trm_core.specs.Record.{gathered}
+use Rattle.trm_execute.proofs.Laws.{execute-jump}
 use borrow.Author.Needs.{needs}
 use Rattle.trm_execute.proofs.inner.words.jump.Statement.{statement}
 use Rattle.trm_execute.proofs.inner.words.jump.Tie as tie
@@ -17,11 +19,12 @@ go-to-requires c κs = search needs
 
 returns : tie.Need-returns
 unfolding jumped returned
-returns c =
-    let t = eq-eqb _ _ (c .before .if1 .taken) in
-    (rw (t, ← c .before .before .register-at .ensures) (c .go-to .ensures), rw t)
+returns c = let s = c .before .before .before .before in let e = execute-jump (s .args .w) (gathered (s .args .c)
+    (s .args .regs .now)) 0 (s .pre .2) (s .pre .3) in let t = eq-eqb _ _ (c .before .if1 .taken) in
+    (rw (e, t, ← c .before .before .register-at .ensures) (c .go-to .ensures), rw (e, t))
 
 next-pc-requires : tie.Need-next-pc-requires
+unfolding jumped returned
 next-pc-requires c κs = widths-from _ (c .before .before .before .before .pre .0) .pc
 
 cast-link : tie.Need-cast-link
@@ -35,11 +38,12 @@ write-to-requires c κs = search needs
 
 returns-2 : tie.Need-returns-2
 unfolding jumped returned
-returns-2 c =
-    let n = ne-eqb _ _ (c .before .before .before .before .if1 .left) in
+returns-2 c = let s = c .before .before .before .before .before .before .before in let e = execute-jump (s .args .w) (gathered
+    (s .args .c) (s .args .regs .now)) 0 (s .pre .2) (s .pre .3) in let n = ne-eqb _ _
+    (c .before .before .before .before .if1 .left) in
     let t = eq-eqb _ _ (c .before .before .before .if2 .taken) in (
-      rw (n, t, ← c .before .before .before .before .before .register-at .ensures) (c .write-to .ensures .0),
-      rw (n, t, ← c .before .before .next-pc .ensures .0) (c .write-to .ensures .1),
+      rw (e, n, t, ← c .before .before .before .before .before .register-at .ensures) (c .write-to .ensures .0),
+      rw (e, n, t, ← c .before .before .next-pc .ensures .0) (c .write-to .ensures .1),
     )
 
 return-from-requires : tie.Need-return-from-requires
@@ -47,10 +51,10 @@ return-from-requires c κs = search needs
 
 returns-3 : tie.Need-returns-3
 unfolding jumped returned
-returns-3 c =
-    let n = ne-eqb _ _ (c .before .before .if1 .left) in
+returns-3 c = let s = c .before .before .before .before .before in let e = execute-jump (s .args .w) (gathered (s .args .c)
+    (s .args .regs .now)) 0 (s .pre .2) (s .pre .3) in let n = ne-eqb _ _ (c .before .before .if1 .left) in
     let m = ne-eqb _ _ (c .before .if2 .left) in
-    (rw (n, m, ← c .before .before .before .register-at .ensures) (c .return-from .ensures), rw (n, m))
+    (rw (e, n, m, ← c .before .before .before .register-at .ensures) (c .return-from .ensures), rw (e, n, m))
 
 pub jump-spec : {M : Type 1} → statement M
 jump-spec =

@@ -1,5 +1,7 @@
 -- The proof of trm_execute::inner::words::load.
 use Rattle.trm_core.proofs.Laws.Rule.{widths-from}
+use Rattle.trm_core.specs.Record.{gathered}
+use Rattle.trm_execute.proofs.Laws.{execute-load}
 use borrow.Author.Needs.{needs}
 use Rattle.trm_execute.proofs.inner.words.load.Statement.{statement}
 use Rattle.trm_execute.proofs.inner.words.load.Tie as tie
@@ -11,7 +13,9 @@ write-to-requires : tie.Need-write-to-requires
 write-to-requires c κs = search needs
 
 returns : tie.Need-returns
-returns c = (rw (← c .before .next-pc .ensures .0) (c .write-to .ensures .0), c .write-to .ensures .1)
+returns c = let s = c .before .before .before in let e = execute-load (s .args .w) (gathered (s .args .c) (s .args .regs .now))
+    (s .args .x) (s .pre .2) in
+    (rw (e, ← c .before .next-pc .ensures .0) (c .write-to .ensures .0), rw e (c .write-to .ensures .1))
 
 pub load-spec : {M : Type 1} → statement M
 load-spec = tie.close (tie.spec next-pc-requires write-to-requires returns)

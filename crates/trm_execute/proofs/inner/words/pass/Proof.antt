@@ -11,7 +11,7 @@ go-to-requires : tie.Need-go-to-requires
 go-to-requires c κs = search needs
 
 returns : tie.Need-returns
-returns c = rw (← c .before .next-pc .ensures .0) (c .go-to .ensures)
+returns c = let e = c .before .before .pre .2 in (rw (e, ← c .before .next-pc .ensures .0) (c .go-to .ensures), rw e)
 
 pub pass-spec : {M : Type 1} → statement M
 pass-spec = tie.close (tie.spec next-pc-requires go-to-requires returns)

@@ -3,11 +3,6 @@ use Rattle.trm_reference.specs.Access.{addressOf}
 use borrow.Author.Needs.{needs}
 use Rattle.trm_reading.proofs.inner.reading.address_of.Statement.{statement}
 use Rattle.trm_reading.proofs.inner.reading.address_of.Tie as tie
-use Rattle.trm_reading.proofs.inner.reading.address_of.Reads as reads
-use Rattle.trm_reading.proofs.inner.reading.address_of.Lts as lts
-use Rattle.trm_reading.proofs.inner.reading.register_at.Reads as register-at-reads
-use Rattle.trm_word.proofs.inner.address.base_of.Reads as base-of-reads
-use Rattle.trm_word.proofs.inner.address.effective_address.Reads as effective-address-reads
 
 register-at-requires : tie.Need-register-at-requires
 register-at-requires c κs = search needs

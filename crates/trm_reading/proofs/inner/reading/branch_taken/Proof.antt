@@ -3,9 +3,6 @@ use Rattle.trm_reference.specs.Execute.{branchTaken}
 use borrow.Author.Needs.{needs}
 use Rattle.trm_reading.proofs.inner.reading.branch_taken.Statement.{statement}
 use Rattle.trm_reading.proofs.inner.reading.branch_taken.Tie as tie
-use Rattle.trm_reading.proofs.inner.reading.branch_taken.Reads as reads
-use Rattle.trm_reading.proofs.inner.reading.branch_taken.Lts as lts
-use Rattle.trm_word.proofs.inner.condition.condition_holds.Reads as condition-holds-reads
 
 cast-condition-holds : tie.Need-cast-condition-holds
 cast-condition-holds c = search needs

@@ -3,8 +3,6 @@ use mathlib.Core.Path.{refl}
 use Rattle.trm_reference.specs.Visible.{cacheOn}
 use Rattle.trm_reading.proofs.inner.reading.cache_on.Statement.{statement}
 use Rattle.trm_reading.proofs.inner.reading.cache_on.Tie as tie
-use Rattle.trm_reading.proofs.inner.reading.cache_on.Reads as reads
-use Rattle.trm_reading.proofs.inner.reading.cache_on.Lts as lts
 
 returns : tie.Need-returns
 unfolding cacheOn

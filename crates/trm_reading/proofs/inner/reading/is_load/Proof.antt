@@ -3,8 +3,6 @@ use mathlib.Core.Path.{refl}
 use Rattle.trm_reference.specs.Access.{isLoad}
 use Rattle.trm_reading.proofs.inner.reading.is_load.Statement.{statement}
 use Rattle.trm_reading.proofs.inner.reading.is_load.Tie as tie
-use Rattle.trm_reading.proofs.inner.reading.is_load.Reads as reads
-use Rattle.trm_reading.proofs.inner.reading.is_load.Lts as lts
 
 returns : tie.Need-returns
 unfolding isLoad

@@ -3,8 +3,6 @@ use mathlib.Core.Path.{refl}
 use Rattle.trm_reference.specs.Access.{isStore}
 use Rattle.trm_reading.proofs.inner.reading.is_store.Statement.{statement}
 use Rattle.trm_reading.proofs.inner.reading.is_store.Tie as tie
-use Rattle.trm_reading.proofs.inner.reading.is_store.Reads as reads
-use Rattle.trm_reading.proofs.inner.reading.is_store.Lts as lts
 
 returns : tie.Need-returns
 unfolding isStore

@@ -2,8 +2,6 @@
 use borrow.Author.Tests.{eq-eqb, ne-eqb}
 use Rattle.trm_reading.proofs.inner.reading.moves_high.Statement.{statement}
 use Rattle.trm_reading.proofs.inner.reading.moves_high.Tie as tie
-use Rattle.trm_reading.proofs.inner.reading.moves_high.Reads as reads
-use Rattle.trm_reading.proofs.inner.reading.moves_high.Lts as lts
 
 returns : tie.Need-returns
 returns c = rw (ne-eqb _ _ (c .if1 .taken))

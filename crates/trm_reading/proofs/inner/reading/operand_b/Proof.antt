@@ -3,9 +3,6 @@ use Rattle.trm_reference.specs.Execute.{operandB}
 use borrow.Author.Needs.{needs}
 use Rattle.trm_reading.proofs.inner.reading.operand_b.Statement.{statement}
 use Rattle.trm_reading.proofs.inner.reading.operand_b.Tie as tie
-use Rattle.trm_reading.proofs.inner.reading.operand_b.Reads as reads
-use Rattle.trm_reading.proofs.inner.reading.operand_b.Lts as lts
-use Rattle.trm_reading.proofs.inner.reading.register_at.Reads as register-at-reads
 
 register-at-requires : tie.Need-register-at-requires
 register-at-requires c κs = search needs

@@ -3,10 +3,6 @@ use Rattle.trm_reference.specs.Access.{placeOfWord}
 use borrow.Author.Needs.{needs}
 use Rattle.trm_reading.proofs.inner.reading.place_of_word.Statement.{statement}
 use Rattle.trm_reading.proofs.inner.reading.place_of_word.Tie as tie
-use Rattle.trm_reading.proofs.inner.reading.place_of_word.Reads as reads
-use Rattle.trm_reading.proofs.inner.reading.place_of_word.Lts as lts
-use Rattle.trm_reading.proofs.inner.reading.address_of.Reads as address-of-reads
-use Rattle.trm_word.proofs.inner.address.place_of.Reads as place-of-reads
 
 address-of-requires : tie.Need-address-of-requires
 address-of-requires c κs = search needs

@@ -3,9 +3,6 @@ use Rattle.trm_reference.specs.Visible.{register}
 use borrow.Author.Needs.{needs}
 use Rattle.trm_reading.proofs.inner.reading.register_at.Statement.{statement}
 use Rattle.trm_reading.proofs.inner.reading.register_at.Tie as tie
-use Rattle.trm_reading.proofs.inner.reading.register_at.Reads as reads
-use Rattle.trm_reading.proofs.inner.reading.register_at.Lts as lts
-use Rattle.trm_reading.proofs.inner.reading.register_index.Reads as register-index-reads
 
 register-index-requires : tie.Need-register-index-requires
 register-index-requires c κs = search needs

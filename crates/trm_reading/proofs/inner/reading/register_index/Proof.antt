@@ -3,8 +3,6 @@ use Rattle.trm_reference.specs.Visible.{registerIndex}
 use borrow.Author.Needs.{needs}
 use Rattle.trm_reading.proofs.inner.reading.register_index.Statement.{statement}
 use Rattle.trm_reading.proofs.inner.reading.register_index.Tie as tie
-use Rattle.trm_reading.proofs.inner.reading.register_index.Reads as reads
-use Rattle.trm_reading.proofs.inner.reading.register_index.Lts as lts
 
 mul-result : tie.Need-mul-result
 mul-result c = search needs
@@ -12,12 +10,9 @@ mul-result c = search needs
 add-result : tie.Need-add-result
 add-result c = search needs
 
-cast-result : tie.Need-cast-result
-cast-result c = search needs
-
 returns : tie.Need-returns
 unfolding registerIndex
 returns c = search needs
 
 pub register-index-spec : {M : Type 1} → statement M
-register-index-spec = tie.close (tie.spec mul-result add-result cast-result returns)
+register-index-spec = tie.close (tie.spec mul-result add-result returns)

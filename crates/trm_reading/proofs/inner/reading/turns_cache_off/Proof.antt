@@ -4,9 +4,6 @@ use borrow.Author.Tests.{eq-eqb, ne-eqb, not-true, not-false}
 use borrow.Author.Needs.{needs}
 use Rattle.trm_reading.proofs.inner.reading.turns_cache_off.Statement.{statement}
 use Rattle.trm_reading.proofs.inner.reading.turns_cache_off.Tie as tie
-use Rattle.trm_reading.proofs.inner.reading.turns_cache_off.Reads as reads
-use Rattle.trm_reading.proofs.inner.reading.turns_cache_off.Lts as lts
-use Rattle.trm_reading.proofs.inner.reading.cache_on.Reads as cache-on-reads
 
 returns : tie.Need-returns
 unfolding turnsCacheOff

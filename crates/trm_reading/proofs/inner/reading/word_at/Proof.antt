@@ -4,8 +4,6 @@ use borrow.Author.Tests.{lt-ltb, le-ltb}
 use borrow.Author.Needs.{needs}
 use Rattle.trm_reading.proofs.inner.reading.word_at.Statement.{statement}
 use Rattle.trm_reading.proofs.inner.reading.word_at.Tie as tie
-use Rattle.trm_reading.proofs.inner.reading.word_at.Reads as reads
-use Rattle.trm_reading.proofs.inner.reading.word_at.Lts as lts
 
 mul-result : tie.Need-mul-result
 mul-result c = search needs

@@ -6,7 +6,7 @@ use mathlib.Core.Bool.{true}
 use Prim.Native.Nat.{_-_, _≤_}
 use Rattle.trm_core.specs.Rule.{allBelow, linesOk}
 use Rattle.trm_cache.specs.Cache.{cache}
-use Rattle.trm_rule.proofs.Laws.{below-none, below-more, below-bad, below-all, goodLine}
+use Rattle.trm_rule.proofs.Laws.{below-none, below-more, below-bad, below-end, goodLine}
 use Rattle.trm_rule.proofs.inner.record.lines_ok.Statement.{statement}
 use Rattle.trm_rule.proofs.inner.record.lines_ok.Tie as tie
 
@@ -48,7 +48,7 @@ loop-again c =
 
 returns-2 : tie.Need-returns-2 Inv-loop μ-loop
 unfolding linesOk
-returns-2 c = sym (below-all 16 _ _ (c .before .loop .inv .0) (c .loop-test .left) (c .before .loop .inv .1))
+returns-2 c = sym (below-end 16 _ _ (c .before .loop .inv .0) (c .loop-test .left) (c .before .loop .inv .1))
 
 pub lines-ok-spec : {M : Type 1} → statement M
 lines-ok-spec =

@@ -1,23 +1,20 @@
 -- The proof of trm_steps::inner::steps::divider_step.
-use Rattle.trm_steps.proofs.Laws.Steps.{div-next}
 use borrow.Author.Needs.{needs}
 use Rattle.trm_steps.proofs.inner.steps.divider_step.Statement.{statement}
 use Rattle.trm_steps.proofs.inner.steps.divider_step.Tie as tie
 
-divider-before-requires : tie.Need-divider-before-requires
-divider-before-requires c κs = search needs
-
-step-requires : tie.Need-step-requires
-step-requires c κs = search needs
-
-add-t6 : tie.Need-add-t6
-add-t6 c = search needs
+divider-first-requires : tie.Need-divider-first-requires
+divider-first-requires c κs = search needs
 
 returns : tie.Need-returns
-returns c =
-    let s = c .before .before .before in
-    let before = c .before .before .divider-before .ensures in
-    rw (c .before .step .ensures, div-next (s .args .r) (s .args .a) (s .args .b) (s .fits .b .fits) (s .pre) _ before)
+returns c = let s = c .before .before .before in rw (s .pre .fresh (c .before .if1 .taken)) (c .divider-first .ensures)
+
+divider-next-requires : tie.Need-divider-next-requires
+divider-next-requires c κs = (c .before .before .pre, c .if1 .left)
+
+returns-2 : tie.Need-returns-2
+returns-2 c = c .divider-next .ensures
 
 pub divider-step-spec : {M : Type 1} → statement M
-divider-step-spec = tie.close (tie.spec divider-before-requires step-requires add-t6 returns)
+divider-step-spec =
+    tie.close (tie.spec divider-first-requires returns divider-next-requires returns-2)

@@ -1,23 +1,20 @@
 -- The proof of trm_steps::inner::steps::multiplier_step.
-use Rattle.trm_steps.proofs.Laws.Steps.{mul-next}
 use borrow.Author.Needs.{needs}
 use Rattle.trm_steps.proofs.inner.steps.multiplier_step.Statement.{statement}
 use Rattle.trm_steps.proofs.inner.steps.multiplier_step.Tie as tie
 
-multiplier-before-requires : tie.Need-multiplier-before-requires
-multiplier-before-requires c κs = search needs
-
-step-requires : tie.Need-step-requires
-step-requires c κs = search needs
-
-add-t7 : tie.Need-add-t7
-add-t7 c = search needs
+multiplier-first-requires : tie.Need-multiplier-first-requires
+multiplier-first-requires c κs = search needs
 
 returns : tie.Need-returns
-returns c =
-    let s = c .before .before .before .before in
-    let next = mul-next (s .args .r) (s .args .a) (s .args .b) (s .fits .a .fits) (s .fits .b .fits) (s .pre) in
-    rw (c .before .step .ensures, c .before .before .before .multiplier-before .ensures, next)
+returns c = let s = c .before .before .before in rw (s .pre .fresh (c .before .if1 .taken)) (c .multiplier-first .ensures)
+
+multiplier-next-requires : tie.Need-multiplier-next-requires
+multiplier-next-requires c κs = (c .before .before .pre, c .if1 .left)
+
+returns-2 : tie.Need-returns-2
+returns-2 c = c .multiplier-next .ensures
 
 pub multiplier-step-spec : {M : Type 1} → statement M
-multiplier-step-spec = tie.close (tie.spec multiplier-before-requires step-requires add-t7 returns)
+multiplier-step-spec =
+    tie.close (tie.spec multiplier-first-requires returns multiplier-next-requires returns-2)

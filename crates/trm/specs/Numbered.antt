@@ -1,0 +1,65 @@
+-- What the exported calls give on every input: the outcome of the call of trm_calls, with the paper's number.
+-- Paper: "Where calls are turned down"; "The clock call takes the record and returns it". Assumes nothing.
+--   ResetNumbered, ClockNumbered, RunNumbered, LookNumbered, CopyNumbered, WatchNumbered   the whole promise of each call, r its result
+--   valueOf   a sighting as the watch returns it
+use Prim.Native.Nat.{ℕ}
+use mathlib.Core.Path.{_≡_}
+use mathlib.Core.List.{List}
+use Rattle.trm_reference.specs.Geometry.{paperGeometry}
+use Rattle.trm_reference.specs.Access.{Answer}
+use Rattle.trm_reference.specs.Trace.{After}
+use Rattle.trm_core.specs.Record.{Lent}
+use Rattle.trm_core.specs.Refusals.{resetRefusal, clockRefusal, runRefusal, lookRefusal, copyRefusal, watchRefusal}
+use Rattle.trm_core.specs.Observe.{SightingHolds}
+use Rattle.trm_core.specs.declared.watch.Sighting.{Sighting}
+use Rattle.trm_core.specs.declared.watch.Sighting.the-variants.{Clock, Nowhere}
+use Rattle.trm_core.specs.Run.{Ran}
+use Rattle.trm_engine.specs.declared.machine.Machine.{Machine}
+use Rattle.trm_engine.specs.Machine.{recordOf}
+use Rattle.trm_calls.specs.Outcome.{lent, pins, resetGives, clockGives, runGives}
+use Rattle.trm_calls.specs.Observed.{lookGives, copyGives}
+use Rattle.trm.specs.declared.answer.ResetAnswer.{ResetAnswer}
+use Rattle.trm.specs.declared.answer.ClockAnswer.{ClockAnswer}
+use Rattle.trm.specs.declared.answer.RunAnswer.{RunAnswer}
+use Rattle.trm.specs.declared.answer.LookAnswer.{LookAnswer}
+use Rattle.trm.specs.declared.answer.WatchAnswer.{WatchAnswer}
+
+-- what is returned and left, put together
+abbrev pub clocked : ClockAnswer → List ℕ → After Lent Answer
+clocked r s = record { state = lent (r .machine) s; out = record { byte = r .byte; word = r .word; done = r .finished } }
+
+abbrev pub ran : RunAnswer → List ℕ → List ℕ → List ℕ → Ran
+ran r s bytes words =
+    record { state = lent (r .machine) s; used = r .used; finished = r .finished; bytes = bytes; words = words }
+
+pub record ResetNumbered (s : List ℕ) (r : ResetAnswer) : Type 0 where
+  pub number : r .number ≡ resetRefusal s
+  pub machine : recordOf (r .machine) ≡ resetGives s
+
+pub record ClockNumbered (m : Machine) (p s : List ℕ) (line input : ℕ) (r : ClockAnswer) (s′ : List ℕ) : Type 0 where
+  pub number : r .number ≡ clockRefusal paperGeometry p (recordOf m) s line
+  pub outcome : clocked r s′ ≡ clockGives p (lent m s) (pins line input)
+
+pub record RunNumbered (m : Machine) (p s lines inputs bytes words : List ℕ) (r : RunAnswer) (s′ bytes′ words′ : List ℕ) : Type 0 where
+  pub number : r .number ≡ runRefusal paperGeometry p (recordOf m) s lines inputs bytes words
+  pub outcome : ran r s′ bytes′ words′ ≡ runGives p (lent m s) lines inputs bytes words
+
+pub record LookNumbered (m : Machine) (p s : List ℕ) (address : ℕ) (r : LookAnswer) : Type 0 where
+  pub number : r .number ≡ lookRefusal paperGeometry p (recordOf m) s address
+  pub word : r .word ≡ lookGives p (lent m s) address
+
+pub record CopyNumbered (m : Machine) (p s b : List ℕ) (r : ℕ) (b′ : List ℕ) : Type 0 where
+  pub number : r ≡ copyRefusal paperGeometry p (recordOf m) s b
+  pub buffer : b′ ≡ copyGives p (lent m s) b
+
+-- a clock is found, or not
+abbrev pub valueOf : ℕ → Sighting → WatchAnswer
+valueOf number (Clock k) = record { number = number; found = 1; clock = k }
+valueOf number Nowhere = record { number = number; found = 0; clock = 0 }
+
+-- there is a sighting that is returned; which of several clocks is free
+pub record WatchNumbered (bytes : List ℕ) (device : ℕ) (r : WatchAnswer) : Type 0 where
+  pub sighting : Sighting
+  pub answer : r ≡ valueOf (watchRefusal device) sighting
+  pub accepted : watchRefusal device ≡ 0 → SightingHolds bytes device sighting
+  pub refused : watchRefusal device ≡ 9 → sighting ≡ Nowhere

@@ -1,0 +1,119 @@
+// The calls as C sees them: a slice is a pointer and a length, the record goes by value.
+// Paper: "Where calls are turned down"; "The clock call takes the record and returns it"; runs, look, copy and watch.
+// Each is the call of trm_calls with the number in place of the enum.
+ghost use Rattle.trm.specs.Numbered.{ResetNumbered, ClockNumbered, RunNumbered, LookNumbered, CopyNumbered, WatchNumbered};
+use crate::answer::ClockAnswer;
+use crate::answer::LookAnswer;
+use crate::answer::ResetAnswer;
+use crate::answer::RunAnswer;
+use crate::answer::WatchAnswer;
+use crate::number;
+use trm_core::watch::Sighting;
+use trm_engine::machine::Machine;
+
+// A record to begin with, for this store.
+#[no_mangle]
+pub extern "C" fn trm_reset(store: &[u32]) -> ResetAnswer
+    ensures { λ r. ⌜ ResetNumbered (now (store .entry)) r ⌝ }
+{
+    let r = trm_calls::calls::reset(store);
+    let refused = r.refused;
+    let machine = r.machine;
+    ResetAnswer {
+        machine: machine,
+        number: number::number_of(refused),
+    }
+}
+
+// One clock.
+#[no_mangle]
+pub extern "C" fn trm_clock_value(
+    m: Machine,
+    program: &[u32],
+    store: &mut [u32],
+    line: u8,
+    input: u32,
+) -> ClockAnswer
+    ensures { λ r. ⌜ ClockNumbered m (now (program .entry)) (now (store .entry)) line input r (now (store .exit)) ⌝ }
+{
+    let r = trm_calls::calls::clock(m, program, store, line, input);
+    let refused = r.refused;
+    let machine = r.machine;
+    ClockAnswer {
+        machine: machine,
+        number: number::number_of(refused),
+        byte: r.byte,
+        word: r.word,
+        finished: r.finished,
+    }
+}
+
+// One clock for each line byte.
+#[no_mangle]
+pub extern "C" fn trm_run(
+    m: Machine,
+    program: &[u32],
+    store: &mut [u32],
+    lines: &[u8],
+    inputs: &[u32],
+    bytes: &mut [u8],
+    words: &mut [u32],
+) -> RunAnswer
+    ensures { λ r. ⌜ RunNumbered m (now (program .entry)) (now (store .entry)) (now (lines .entry)) (now (inputs .entry))
+        (now (bytes .entry)) (now (words .entry)) r (now (store .exit)) (now (bytes .exit)) (now (words .exit)) ⌝ }
+{
+    let r = trm_calls::calls::run(m, program, store, lines, inputs, bytes, words);
+    let refused = r.refused;
+    let machine = r.machine;
+    RunAnswer {
+        machine: machine,
+        number: number::number_of(refused),
+        used: r.used,
+        finished: r.finished,
+    }
+}
+
+// One word of data memory.
+#[no_mangle]
+pub extern "C" fn trm_look(m: Machine, program: &[u32], store: &[u32], address: u32) -> LookAnswer
+    ensures { λ r. ⌜ LookNumbered m (now (program .entry)) (now (store .entry)) address r ⌝ }
+{
+    let r = trm_calls::observe::look(m, program, store, address);
+    let refused = r.refused;
+    LookAnswer {
+        number: number::number_of(refused),
+        word: r.word,
+    }
+}
+
+// All of data memory; the number alone is returned.
+#[no_mangle]
+pub extern "C" fn trm_copy(m: Machine, program: &[u32], store: &[u32], buffer: &mut [u32]) -> u32
+    ensures { λ r. ⌜ CopyNumbered m (now (program .entry)) (now (store .entry)) (now (buffer .entry)) r (now (buffer .exit)) ⌝ }
+{
+    let refused = trm_calls::observe::copy(m, program, store, buffer);
+    number::number_of(refused)
+}
+
+// A clock that shows the device written, or none.
+#[no_mangle]
+pub extern "C" fn trm_watch(bytes: &[u8], device: u32) -> WatchAnswer
+    ensures { λ r. ⌜ WatchNumbered (now (bytes .entry)) device r ⌝ }
+{
+    let r = trm_calls::observe::watch(bytes, device);
+    let refused = r.refused;
+    let sighting = r.sighting;
+    let n = number::number_of(refused);
+    match sighting {
+        Sighting::Clock(k) => WatchAnswer {
+            number: n,
+            found: 1,
+            clock: k,
+        },
+        Sighting::Nowhere => WatchAnswer {
+            number: n,
+            found: 0,
+            clock: 0,
+        },
+    }
+}

@@ -1,0 +1,46 @@
+-- The proof of trm_clock::inner::last::last_control.
+use Rattle.trm_clock.proofs.Laws.Words.{control-made}
+use Rattle.trm_clock.proofs.Laws.Words.{jump-keeps}
+use borrow.Author.Needs.{needs}
+use Rattle.trm_clock.proofs.inner.last.last_control.Statement.{statement}
+use Rattle.trm_clock.proofs.inner.last.last_control.Tie as tie
+
+jump-requires : tie.Need-jump-requires
+jump-requires c κs = let g = c .before .before .before .pre in (g .0 .widths, g .0 .counts, g .2, c .before .if1 .taken)
+
+carried-requires : tie.Need-carried-requires
+carried-requires c κs = search needs
+
+returns : tie.Need-returns
+returns c = let g = c .before .before .before .before .before .pre in
+    control-made _ _ _ _ _ _ _ (g .2) _ _ _ _ (jump-keeps _ _ _ (c .before .before .before .if1 .taken)) (c .carried .ensures)
+    (c .before .jump .ensures .0) (c .before .jump .ensures .1)
+
+clear-lines-requires : tie.Need-clear-lines-requires
+clear-lines-requires c κs = search needs
+
+set-status-requires : tie.Need-set-status-requires
+set-status-requires c κs = let g = c .before .before .before .before .before .before .before .before .before .pre in
+    (g .0 .widths, g .0 .counts, g .2, c .before .before .before .before .before .before .before .if1 .left)
+
+carried-requires-2 : tie.Need-carried-requires-2
+carried-requires-2 c κs = search needs
+
+returns-2 : tie.Need-returns-2
+returns-2 c =
+    let c10 = c .before .before .before .before .before .before .before .before .before .before in
+    let g = c10 .before .pre in
+    control-made _ _ _ _ _ _ _ (g .2) _ _ _ _ (c .before .before .before .clear-lines .ensures) (c .carried2 .ensures)
+    (c .before .set-status .ensures .0) (c .before .set-status .ensures .1)
+
+pub last-control-spec : {M : Type 1} → statement M
+last-control-spec =
+    tie.close
+    (tie.spec
+    jump-requires
+    carried-requires
+    returns
+    clear-lines-requires
+    set-status-requires
+    carried-requires-2
+    returns-2)

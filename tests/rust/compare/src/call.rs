@@ -1,0 +1,226 @@
+// A call with all it is lent, carried out on one side, and what came of it.
+// Paper: the calls of "Clock by clock"; "It returns the number only and writes nothing".
+// Lent words stand between guard words, so that a write beside them is seen.
+use crate::fields;
+use crate::library::Machine;
+use crate::side::Side;
+
+/// What every call but reset and watch is lent beside its own inputs.
+#[derive(Clone)]
+pub struct Lent {
+    pub machine: Machine,
+    pub program: Vec<u32>,
+    pub store: Vec<u32>,
+}
+
+#[derive(Clone, Debug)]
+pub enum Call {
+    Reset,
+    Clock {
+        line: u8,
+        input: u32,
+    },
+    /// The answer buffers are given with their old contents.
+    Run {
+        lines: Vec<u8>,
+        inputs: Vec<u32>,
+        bytes: Vec<u8>,
+        words: Vec<u32>,
+    },
+    Look {
+        address: u32,
+    },
+    Copy {
+        buffer: Vec<u32>,
+    },
+    Watch {
+        bytes: Vec<u8>,
+        device: u32,
+    },
+}
+
+/// Everything that a call may have changed or answered.
+#[derive(Clone)]
+pub struct Outcome {
+    pub number: u32,
+    pub machine: Machine,
+    pub store: Vec<u32>,
+    pub bytes: Vec<u8>,
+    pub words: Vec<u32>,
+    /// Byte, word, finished; used; found and clock of a watch: each zero where the call has no such answer.
+    pub answers: [(&'static str, u64); 6],
+    /// No guard word was written.
+    pub guarded: bool,
+}
+
+const GUARD: usize = 4;
+const FENCE: u32 = 0xFEED_FACE;
+const FENCE_BYTE: u8 = 0xA5;
+
+/// A copy of lent items with guards before and after.
+struct Fenced<T: Copy + PartialEq> {
+    items: Vec<T>,
+    fence: T,
+}
+
+impl<T: Copy + PartialEq> Fenced<T> {
+    fn new(items: &[T], fence: T) -> Fenced<T> {
+        let guard = [fence; GUARD];
+        Fenced { items: [&guard, items, &guard].concat(), fence }
+    }
+
+    fn lend(&mut self) -> &mut [T] {
+        let end = self.items.len() - GUARD;
+        &mut self.items[GUARD..end]
+    }
+
+    /// The items and whether the guards are whole.
+    fn back(mut self) -> (Vec<T>, bool) {
+        let end = self.items.len() - GUARD;
+        let guards = self.items[..GUARD].iter().chain(&self.items[end..]);
+        let whole = guards.into_iter().all(|guard| *guard == self.fence);
+        self.items.truncate(end);
+        self.items.drain(..GUARD);
+        (self.items, whole)
+    }
+}
+
+impl Call {
+    pub fn perform(&self, side: &dyn Side, lent: &Lent) -> Outcome {
+        let mut store = Fenced::new(&lent.store, FENCE);
+        let mut bytes = Fenced::new(self.bytes(), FENCE_BYTE);
+        let mut words = Fenced::new(self.words(), FENCE);
+        let (m, program) = (&lent.machine, &lent.program[..]);
+        let mut machine = lent.machine;
+        let mut answers = [("byte", 0), ("word", 0), ("finished", 0), ("used", 0), ("found", 0), ("clock", 0)];
+        let number = match self {
+            Call::Reset => {
+                let answer = side.reset(store.lend());
+                machine = answer.machine;
+                answer.number
+            }
+            Call::Clock { line, input } => {
+                let answer = side.clock(m, program, store.lend(), *line, *input);
+                machine = answer.machine;
+                (answers[0].1, answers[1].1) = (answer.byte.into(), answer.word.into());
+                answers[2].1 = answer.finished;
+                answer.number
+            }
+            Call::Run { lines, inputs, .. } => {
+                let answer = side.run(m, program, store.lend(), lines, inputs, bytes.lend(), words.lend());
+                machine = answer.machine;
+                (answers[2].1, answers[3].1) = (answer.finished, answer.used);
+                answer.number
+            }
+            Call::Look { address } => {
+                let answer = side.look(m, program, store.lend(), *address);
+                answers[1].1 = answer.word.into();
+                answer.number
+            }
+            Call::Copy { .. } => side.copy(m, program, store.lend(), words.lend()),
+            Call::Watch { bytes: watched, device } => {
+                let answer = side.watch(watched, *device);
+                (answers[4].1, answers[5].1) = (answer.found.into(), answer.clock);
+                answer.number
+            }
+        };
+        let ((store, a), (bytes, b), (words, c)) = (store.back(), bytes.back(), words.back());
+        Outcome { number, machine, store, bytes, words, answers, guarded: a && b && c }
+    }
+
+    /// Old contents of the byte buffer.
+    pub fn bytes(&self) -> &[u8] {
+        match self {
+            Call::Run { bytes, .. } => bytes,
+            _ => &[],
+        }
+    }
+
+    /// Old contents of the word buffer.
+    pub fn words(&self) -> &[u32] {
+        match self {
+            Call::Run { words, .. } => words,
+            Call::Copy { buffer } => buffer,
+            _ => &[],
+        }
+    }
+
+    /// The number of clocks the call carries out if it is accepted.
+    pub fn clocks(&self) -> u64 {
+        match self {
+            Call::Clock { .. } => 1,
+            Call::Run { lines, .. } => lines.len() as u64,
+            _ => 0,
+        }
+    }
+
+    pub fn name(&self) -> &'static str {
+        match self {
+            Call::Reset => "reset",
+            Call::Clock { .. } => "clock",
+            Call::Run { .. } => "run",
+            Call::Look { .. } => "look",
+            Call::Copy { .. } => "copy",
+            Call::Watch { .. } => "watch",
+        }
+    }
+
+    /// In a few words, for a report.
+    pub fn describe(&self) -> String {
+        match self {
+            Call::Reset => "reset".into(),
+            Call::Clock { line, input } => format!("clock, line byte {line}, input word {input:X}H"),
+            Call::Run { lines, inputs, bytes, words } => {
+                let sizes = (lines.len(), inputs.len(), bytes.len(), words.len());
+                let first: Vec<u8> = lines.iter().take(200).copied().collect();
+                format!("run, lengths of lines, inputs, bytes, words {sizes:?}, first line bytes {first:?}")
+            }
+            Call::Look { address } => format!("look at {address:X}H"),
+            Call::Copy { buffer } => format!("copy into {} words", buffer.len()),
+            Call::Watch { bytes, device } => format!("watch for device {device} in {} bytes", bytes.len()),
+        }
+    }
+}
+
+/// The first place in which two outcomes of one call differ. The watch's choice is judged elsewhere.
+pub fn difference(call: &Call, left: &Outcome, right: &Outcome) -> Option<String> {
+    if left.number != right.number {
+        return Some(format!("number: {} against {}", left.number, right.number));
+    }
+    let answers = || {
+        let pairs = left.answers.iter().zip(&right.answers);
+        let last = if matches!(call, Call::Watch { .. }) { 5 } else { 6 };
+        let differs = pairs.take(last).find(|(l, r)| l.1 != r.1)?;
+        Some(format!("answer {}: {:X}H against {:X}H", differs.0 .0, differs.0 .1, differs.1 .1))
+    };
+    if left.machine != right.machine {
+        return fields::difference(&left.machine, &right.machine);
+    }
+    place("store word", &left.store, &right.store)
+        .or_else(answers)
+        .or_else(|| place("answer byte", &left.bytes, &right.bytes))
+        .or_else(|| place("answer or copied word", &left.words, &right.words))
+}
+
+/// Whether a refused call left all as it was: record, store, buffers, and no answers.
+pub fn untouched(call: &Call, lent: &Lent, outcome: &Outcome) -> Option<String> {
+    let zeros = crate::side::zeros();
+    let given = if matches!(call, Call::Reset) { &zeros } else { &lent.machine };
+    if let Some(answer) = outcome.answers.iter().find(|answer| answer.1 != 0) {
+        return Some(format!("answer {} of a refused call: {:X}H", answer.0, answer.1));
+    }
+    if outcome.machine != *given {
+        return fields::difference(given, &outcome.machine);
+    }
+    place("store word", &lent.store, &outcome.store)
+        .or_else(|| place("answer byte", call.bytes(), &outcome.bytes))
+        .or_else(|| place("answer or copied word", call.words(), &outcome.words))
+}
+
+fn place<T: PartialEq + std::fmt::Debug>(name: &str, left: &[T], right: &[T]) -> Option<String> {
+    if left == right {
+        return None;
+    }
+    let at = left.iter().zip(right).position(|(l, r)| l != r)?;
+    Some(format!("{name} {at}: {:?} against {:?}", left[at], right[at]))
+}

@@ -1,0 +1,142 @@
+// Holds the library against the simulator, call by call, and counts what was compared.
+// Paper: all of it but images and the listing program.
+// Called: compare [--rounds N | --seconds N] [--seed S] [--part P]; see tests/rust/run.
+mod call;
+mod check;
+mod clauses;
+mod damage;
+mod demand;
+mod edges;
+mod fields;
+mod library;
+mod lists;
+mod plain;
+mod programs;
+mod random;
+mod records;
+mod side;
+mod table;
+mod tally;
+
+use check::Check;
+use random::Random;
+use std::time::{Duration, Instant};
+
+/// Rounds without an option, and the seed of the first.
+const ROUNDS: u64 = 3000;
+const SEED: u64 = 1;
+
+struct Options {
+    rounds: Option<u64>,
+    seconds: Option<u64>,
+    seed: u64,
+    /// Only this part, 1 to 7.
+    part: Option<u64>,
+}
+
+impl Options {
+    fn wants(&self, part: u64) -> bool {
+        self.part.is_none_or(|only| only == part)
+    }
+}
+
+fn options() -> Result<Options, String> {
+    let mut options = Options { rounds: None, seconds: None, seed: SEED, part: None };
+    let mut words = std::env::args().skip(1);
+    while let Some(name) = words.next() {
+        let value = words.next().and_then(|value| value.parse().ok());
+        let value: u64 = value.ok_or_else(|| format!("{name} needs a number"))?;
+        match name.as_str() {
+            "--rounds" => options.rounds = Some(value),
+            "--seconds" => options.seconds = Some(value),
+            "--seed" => options.seed = value,
+            "--part" => options.part = Some(value),
+            _ => return Err(format!("unknown option {name}")),
+        }
+    }
+    Ok(options)
+}
+
+/// One round: a list of calls, a record of each kind, in one of eight a sweep of damages, a list of demand 3.
+fn round(check: &mut Check, options: &Options, seed: u64) {
+    check.seed = seed;
+    if options.wants(1) {
+        check.part = "part 1, lists of calls".into();
+        lists::list(check, &mut Random::new(seed));
+    }
+    if options.wants(2) {
+        check.part = "part 2, records made directly".into();
+        records::records(check, &mut Random::new(!seed));
+    }
+    if options.wants(3) && seed.is_multiple_of(8) {
+        check.part = "part 3, damaged records".into();
+        damage::sweep(check, &mut Random::new(seed.rotate_left(32)));
+    }
+    if options.wants(6) {
+        check.part = "part 6, the plain machine of demand 3".into();
+        demand::demand(check, &mut Random::new(seed ^ 0x6666));
+    }
+}
+
+fn rounds(check: &mut Check, options: &Options) -> u64 {
+    let start = Instant::now();
+    let limit = options.seconds.map(Duration::from_secs);
+    let rounds = if limit.is_some() { u64::MAX } else { options.rounds.unwrap_or(ROUNDS) };
+    let mut done = 0;
+    while done < rounds && limit.is_none_or(|limit| start.elapsed() < limit) {
+        round(check, options, options.seed.wrapping_add(done));
+        done += 1;
+    }
+    done
+}
+
+fn main() {
+    let options = options().unwrap_or_else(|what| {
+        println!("{what}");
+        println!("0 passed, 1 failed");
+        std::process::exit(2);
+    });
+    let start = Instant::now();
+    let mut check = Check { seed: options.seed, observing: true, ..Check::default() };
+    if options.wants(4) {
+        check.part = "part 4, clauses of row 5".into();
+        let clauses = clauses::clauses(&mut check);
+        println!("row 5: {clauses} clauses, each with an accepted record and a refused neighbour");
+    }
+    if options.wants(5) {
+        check.part = "part 5, edges of the refusal table".into();
+        let edges = table::table(&mut check);
+        println!("refusal table: {edges} edges and orders of rows");
+    }
+    if options.wants(7) {
+        check.part = "part 7, arithmetic at the edges".into();
+        let pairs = edges::edges(&mut check);
+        println!("arithmetic: {pairs} pairs of edge words");
+    }
+    let done = rounds(&mut check, &options);
+    println!("{done} rounds from seed {}", options.seed);
+    let whole = options.rounds.is_none() && options.part.is_none();
+    let failed = counts(&mut check, whole);
+    let seconds = start.elapsed().as_secs_f64();
+    println!("{} calls and {} clocks compared in {seconds:.1} s", check.calls, check.clocks);
+    check.passed += 4;
+    println!("{} passed, {failed} failed", check.passed);
+    if failed > 0 {
+        std::process::exit(1);
+    }
+}
+
+/// Prints the tally; a count of zero is a failure if all rounds were done.
+fn counts(check: &mut Check, whole: bool) -> u64 {
+    let mut failed = 0;
+    for (name, count) in check.tally.counts() {
+        println!("{count:>12} {name}");
+        if count > 0 {
+            check.pass();
+        } else if whole {
+            println!("never met: {name}");
+            failed += 1;
+        }
+    }
+    failed
+}

@@ -1,0 +1,15 @@
+// Links the library's static archive, libtrm.a, from target/staticlib at the repository's root.
+// Paper: none of it; this is about the build.
+// TRM_ARCHIVE names another folder with a libtrm.a, for stand-ins with planted faults.
+use std::env;
+use std::path::Path;
+
+fn main() {
+    let root = Path::new(env!("CARGO_MANIFEST_DIR")).join("../../..");
+    let usual = root.join("target/staticlib").display().to_string();
+    let folder = env::var("TRM_ARCHIVE").unwrap_or(usual);
+    println!("cargo:rustc-link-search=native={folder}");
+    println!("cargo:rustc-link-lib=static=trm");
+    println!("cargo:rerun-if-changed={folder}/libtrm.a");
+    println!("cargo:rerun-if-env-changed=TRM_ARCHIVE");
+}

@@ -1,0 +1,84 @@
+// The calls on a record: reset, one clock, a run, a look, a copy.
+// Paper: "Clock by clock" from "A run carries out", and "Where calls are turned down".
+// An error is the refusal's number; record, store and buffers are then untouched.
+use crate::cache::Cache;
+use crate::clock::Machine;
+use crate::feed::Feed;
+use crate::record::{Record, State};
+use crate::refuse;
+
+/// What one clock answers: device byte, word moved, and whether it finished an instruction (1 or 0).
+#[derive(Clone, Copy, PartialEq, Eq, Debug, Default)]
+pub struct Answer {
+    pub byte: u8,
+    pub word: u32,
+    pub finished: u64,
+}
+
+/// What a run reports: clocks used and instructions finished.
+#[derive(Clone, Copy, PartialEq, Eq, Debug, Default)]
+pub struct Ran {
+    pub used: u64,
+    pub finished: u64,
+}
+
+pub fn reset(store: &[u32]) -> Result<Record, u32> {
+    refuse::length(store.len())?;
+    let state = State { size: store.len() as u32, ..State::default() };
+    Ok(Record { state, registers: [0; 16], cache: Cache::default() })
+}
+
+pub fn clock(record: &mut Record, program: &[u32], store: &mut [u32], line: u8, input: u32) -> Result<Answer, u32> {
+    refuse::common(record, program, store.len())?;
+    refuse::line(line)?;
+    refuse::clocks(record, 1)?;
+    let (mut byte, mut moved) = ([0], [0]);
+    let ran = go(record, program, store, Feed::new(&[line], &[input], &mut byte, &mut moved));
+    Ok(Answer { byte: byte[0], word: moved[0], finished: ran.finished })
+}
+
+pub fn run(
+    record: &mut Record,
+    program: &[u32],
+    store: &mut [u32],
+    lines: &[u8],
+    inputs: &[u32],
+    bytes: &mut [u8],
+    words: &mut [u32],
+) -> Result<Ran, u32> {
+    refuse::common(record, program, store.len())?;
+    refuse::lines(lines, inputs.len())?;
+    refuse::buffer(bytes.len(), lines.len())?;
+    refuse::buffer(words.len(), lines.len())?;
+    refuse::clocks(record, lines.len())?;
+    Ok(go(record, program, store, Feed::new(lines, inputs, bytes, words)))
+}
+
+/// Carries out the clocks of the feed.
+fn go(record: &mut Record, program: &[u32], store: &mut [u32], feed: Feed) -> Ran {
+    let Record { state, registers, cache } = record;
+    let mut machine = Machine { state, registers, cache, program, store, feed, finished: 0 };
+    let used = machine.run();
+    Ran { used, finished: machine.finished }
+}
+
+/// One word of data memory, a full line's word before the store's.
+pub fn look(record: &Record, program: &[u32], store: &[u32], address: u32) -> Result<u32, u32> {
+    refuse::common(record, program, store.len())?;
+    refuse::address(address)?;
+    Ok(record.cache.seen(store, address as usize & (store.len() - 1)))
+}
+
+/// All of data memory into a buffer of the store's length.
+pub fn copy(record: &Record, program: &[u32], store: &[u32], buffer: &mut [u32]) -> Result<(), u32> {
+    refuse::common(record, program, store.len())?;
+    refuse::buffer(buffer.len(), store.len())?;
+    buffer.copy_from_slice(store);
+    for (line, words) in record.cache.lines.iter().zip(record.cache.words.chunks_exact(8)) {
+        if line.full == 1 {
+            let first = usize::from(line.block) * 8;
+            buffer[first..first + 8].copy_from_slice(words);
+        }
+    }
+    Ok(())
+}

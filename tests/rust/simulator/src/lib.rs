@@ -1,0 +1,23 @@
+// Simulator of the TRM with its cache, one clock at a time, written from the paper alone.
+// Paper: all of it but images and the listing program.
+// Every call takes any input and answers the refusal number of the paper's table as its error.
+#![forbid(unsafe_code)]
+
+mod alu;
+mod cache;
+mod calls;
+mod clock;
+mod feed;
+mod flight;
+mod record;
+mod refuse;
+mod rule;
+mod serial;
+mod short;
+mod watch;
+mod word;
+
+pub use cache::{Cache, Line};
+pub use calls::{clock, copy, look, reset, run, Answer, Ran};
+pub use record::{Flags, Record, State};
+pub use watch::{shows_write, watch};
