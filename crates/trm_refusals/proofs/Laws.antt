@@ -1,14 +1,14 @@
 -- Laws of the test that runs over a list, what a passed row gives, and the number of a call by its first rows.
 -- Idea: a list from place i on is its number there, then the rest; the rest by cases on the Bool.
 -- Assumes nothing.
---   all-more, all-bad, all-end     passed-store, passed-clocks, passed-length     code-zero, kept-number, passed-rows
-use Prim.Native.Nat.{ℕ, _+_, _^_, _≤_, _<_}
+--   all-more, all-bad, all-end, most-more, most-end     passed-store, passed-clocks, passed-length     code-zero, kept-number, passed-rows
+use Prim.Native.Nat.{ℕ, suc, _+_, _^_, _≤_, _<_}
 use mathlib.Core.Path.{_≡_, refl, sym, _∙_}
-use mathlib.Core.Bool.{Bool, true, false, cond, not, _&&_, _||_}
+use mathlib.Core.Bool.{Bool, true, false, cond, not, _&&_, _||_, and-true}
 use mathlib.Core.List.{List, [], _∷_}
 use native.Mathlib.Numerals.{add-one}
 use native.Mathlib.Omega.{arith}
-use borrow.Author.Tests.{le-leb, lt-leb, ltb-true, ltb-false, eqb-true, not-true, not-false}
+use borrow.Author.Tests.{le-leb, lt-leb, leb-true, leb-false, ltb-true, ltb-false, eqb-true, not-true, not-false}
 use lib.ListN.{length, getD, drop, drop-of-length-le}
 use lib.Seq.{drop-cons}
 use lib.Dec.{eqb, leb, ltb}
@@ -43,6 +43,33 @@ all-bad limit xs i h l = rw (drop-cons xs i 0 h, all-cons, lt-leb _ _ l)
 -- past the end none is left
 pub all-end : (limit : ℕ) (xs : List ℕ) (i : ℕ) → length xs ≤ i → allAtMost limit (drop i xs) ≡ true
 all-end limit xs i h = rw (drop-of-length-le xs h) (all-nil limit)
+
+-- the larger of two is in the limit if both are
+larger-most : (limit a b : ℕ) → leb (cond (ltb a b) b a) limit ≡ (leb a limit && leb b limit)
+larger-most limit a b = go (ltb a b) refl (leb a limit) refl (leb b limit) refl
+  where
+    go : (t : Bool) → ltb a b ≡ t → (x : Bool) → leb a limit ≡ x → (y : Bool) → leb b limit ≡ y
+        → leb (cond t b a) limit ≡ (x && y)
+    go true e true p y q = q
+    go true e false p true q = absurd (omega (arith, ltb-true a b e, leb-false a limit p, leb-true b limit q))
+    go true e false p false q = q
+    go false e true p true q = p
+    go false e true p false q = absurd (omega (arith, ltb-false a b e, leb-true a limit p, leb-false b limit q))
+    go false e false p y q = p
+
+and-step : (a b c : Bool) → ((a && b) && c) ≡ (a && (b && c))
+and-step true b c = refl
+and-step false b c = refl
+
+-- the larger of those passed by stands for all of them
+pub most-more : (limit m : ℕ) (xs : List ℕ) (i : ℕ) → i < length xs
+    → (leb (cond (ltb m (getD xs i 0)) (getD xs i 0) m) limit && allAtMost limit (drop (i + 1) xs))
+    ≡ (leb m limit && allAtMost limit (drop i xs))
+most-more limit m xs i h = rw (larger-most limit m (getD xs i 0), drop-cons xs i 0 h, all-cons, add-one)
+    (and-step (leb m limit) (leb (getD xs i 0) limit) (allAtMost limit (drop (suc i) xs)))
+
+pub most-end : (limit m : ℕ) (xs : List ℕ) (i : ℕ) → length xs ≤ i → (leb m limit && allAtMost limit (drop i xs)) ≡ leb m limit
+most-end limit m xs i h = rw (all-end limit xs i h) (and-true (leb m limit))
 
 fourth : (a b c d e : Bool) → a && b && c && d && e ≡ true → d ≡ true
 fourth a b c d e t = both (a && b && c && d) e (λ q _. both (a && b && c) d (λ _ r. r) q) t

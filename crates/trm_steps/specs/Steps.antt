@@ -1,7 +1,7 @@
 -- What one step of the multiplier or the divider asks of the record, and the registers that it leaves.
 -- Paper: "Phase 1 needs operation 8 or 9"; "1 arithmetic, 1–32"; "for the operation not running, these registers are zero".
 -- Assumes nothing.
---   Steps w r v   the word w goes on, r in flight        multiplied, dividedBy   what is in flight after a step of one of them
+--   Steps w r v, Serves w r a b   the word w goes on, r in flight        multiplied, dividedBy   what is in flight after a step of one of them
 use Prim.Native.Nat.{ℕ, _<_}
 use mathlib.Core.Path.{_≡_}
 use mathlib.Core.Logic.{_≢_}
@@ -9,6 +9,7 @@ use mathlib.Core.Bool.{true}
 use Rattle.trm_alu.specs.Multiply.{mulAfter}
 use Rattle.trm_alu.specs.Divide.{divRem, divQuot}
 use Rattle.trm_reference.specs.Visible.{Visible}
+use Rattle.trm_reference.specs.Execute.{operandA, operandB}
 use Rattle.trm_reference.specs.Charge.{isStepped}
 use Rattle.trm_core.specs.declared.record.Running.{Running}
 use Rattle.trm_core.specs.Rule.{registersOk}
@@ -20,6 +21,14 @@ pub record Steps (w : ℕ) (r : Running) (v : Visible) : Type 0 where
   pub fresh : r .phase ≡ 0 → r .count ≡ 0
   pub only : r .phase ≢ 0 → r .phase ≡ 1
   pub registers : registersOk w r v ≡ true
+
+-- r is in flight in the word w, in phase 1 with steps left, A and B being a and b
+pub record Serves (w : ℕ) (r : Running) (a b : ℕ) : Type 0 where
+  pub seen : Visible
+  pub steps : Steps w r seen
+  pub running : r .phase ≡ 1
+  pub first : a ≡ operandA w seen
+  pub second : b ≡ operandB w seen
 
 -- the same for the multiplier alone, A and B being a and b
 pub record Multiplies (r : Running) (a b : ℕ) : Type 0 where

@@ -51,7 +51,7 @@ pub fn next_step(
 }
 
 // The line that phase 2 writes back: the lowest dirty one when the cache is turned off, else the line of the access.
-fn line_of_burst(
+pub fn line_of_burst(
     c: Scalars,
     regs: &[u32; 16],
     full: &[u8; 16],

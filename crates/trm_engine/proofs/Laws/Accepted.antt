@@ -1,18 +1,18 @@
 -- What a call that nothing refuses tells: each row's condition, row by row.
 -- Idea: a number of 0 is the last branch of the rows' tests.
 -- Assumes nothing.
---   clock-passed    run-passed    clock-free   a clock is not refused
+--   clock-passed    run-passed
 use Prim.Native.Nat.{ℕ, _+_, _≤_}
 use mathlib.Core.Path.{_≡_, refl}
 use mathlib.Core.Bool.{Bool, true, false, cond, not, _||_}
 use mathlib.Core.List.{List}
 use lib.ListN.{length}
 use lib.Dec.{eqb, ltb}
-use borrow.Author.Tests.{eqb-true, ltb-false, le-ltb}
+use borrow.Author.Tests.{eqb-true, ltb-false}
 use native.Mathlib.Omega.{arith}
 use Rattle.trm_reference.specs.Geometry.{paperGeometry}
 use Rattle.trm_core.specs.Record.{Machine}
-use Rattle.trm_core.specs.Refusals.{allAtMost, linesRefused, recordRows}
+use Rattle.trm_core.specs.Refusals.{allAtMost, linesRefused}
 use Rattle.trm_core.proofs.Laws.Rows.{Passed, rows-passed}
 use Rattle.trm_core.specs.Refusals.{countRow, clockRows, runRows, clockRefusal, runRefusal}
 
@@ -62,10 +62,3 @@ unfolding runRefusal
 run-passed p m s lines inputs bytes words q =
     let a = rows-passed paperGeometry p m s (runRows (m .scalars .counts .clocks) lines inputs bytes words) q in
     (a .0, own-rows m lines inputs bytes words (a .1))
-
--- a clock of a run is not refused
-pub clock-free : (p : List ℕ) (m : Machine) (s : List ℕ) (line : ℕ) → Passed paperGeometry p m s → line ≤ 7
-    → m .scalars .counts .clocks + 1 ≤ 4294967295 → clockRefusal paperGeometry p m s line ≡ 0
-unfolding clockRefusal recordRows clockRows countRow
-clock-free p m s line a low room =
-    rw (a .program, a .store, a .rule, le-ltb 7 line low, le-ltb 4294967295 (m .scalars .counts .clocks + 1) room)

@@ -85,6 +85,28 @@ pub fn short(c: Scalars, regs: &mut [u32; 16], w: u32) -> Scalars
     next
 }
 
+// 10 alone, for callers that have told it apart.
+pub fn rotate(c: Scalars, regs: &mut [u32; 16], w: u32) -> Scalars
+    requires { ⌜ (widthsOk (gathered c (now regs)) ≡ true) × (countsOk (c .counts) ≡ true) × (c .running ≡ inPhase 0 0)
+        × (operation w ≡ 10) ⌝ }
+    ensures { λ r. ⌜ (r ≡ ended c (execute w (gathered c (now (regs .entry))) 0))
+        × (now (regs .exit) ≡ execute w (gathered c (now (regs .entry))) 0 .regs) ⌝ }
+{
+    let a = trm_reading::inner::reading::operand_a(c, regs, w);
+    let b = trm_reading::inner::reading::operand_b(c, regs, w);
+    let result = trm_alu::inner::bits::rotate(a, b);
+    let flags = trm_alu::inner::flags::flags_after(10, a, b, result, c.c, c.v);
+    put_register(regs, c.status, w / 0x800 % 8, result);
+    let pc = next_pc(c.pc);
+    let mut next = trm_steps::inner::scalars::tick(c);
+    next.pc = pc;
+    next.n = flags.n;
+    next.z = flags.z;
+    next.c = flags.c;
+    next.v = flags.v;
+    next
+}
+
 // R.d and H: of 8 the two words of the product, of 9 quotient and remainder.
 fn outcome_of(running: Running, op: u64, a: u32, b: u32) -> Outcome
     requires { ⌜ (op ≡ 8 → running .product ≡ mulAfter a b 32) × (op ≢ 8 → op ≡ 9) × (op ≡ 9 → running .remainder ≡ divRem a b 32)

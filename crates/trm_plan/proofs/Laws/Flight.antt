@@ -53,9 +53,12 @@ module _ (w n : ℕ) (c : Scalars) (rs : List ℕ) (ca : Cache) (f : Facts w n c
     pub stepping-word : isStepped w ≡ true
     stepping-word = is-of w v n longer (arithmetic-is .0) .stepped
 
+    pub serial-count : c .running .count + 1 ≡ chargeOf (operation w) → c .running .count ≡ 32
+    serial-count q = let z = is-of w v n longer (arithmetic-is .0) .cost in omega (arith, q, z)
+
     pub step-ends : c .running .count + 1 ≡ chargeOf (operation w) → Plan Finish w n c rs ca
     step-ends q = let a = arithmetic-is in
-        let all : c .running .count ≡ 32 = (let z = is-of w v n longer (a .0) .cost in omega (arith, q, z)) in (
+        let all = serial-count q in (
           last-1 paperGeometry w n v ca (c .running) ph (a .0) ∙ rw all,
           record {
             product = f .registers .product ∙ rw (test-at ph 1, all);

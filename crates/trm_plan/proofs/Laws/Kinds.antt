@@ -1,7 +1,7 @@
 -- A word's kind from what the code tests: its operation, bit 10, the place of its access, the cache bit.
 -- Idea: with the operation known every test of `kindOf` computes.
 -- Assumes nothing.
-use Prim.Native.Nat.{ℕ, _/_, _%_, _<_}
+use Prim.Native.Nat.{ℕ, _/_, _%_, _≤_, _<_}
 use mathlib.Core.Path.{_≡_, refl}
 use mathlib.Core.Logic.{_≢_}
 use mathlib.Core.Bool.{Bool, true, false, _||_}
@@ -40,18 +40,18 @@ unstepped w t = go (eqb (operation w) 12) refl (eqb (operation w) 13) refl t
     go false p true q z = rw (eqb-true (operation w) 13 q)
     go false p false q z = clash z
 
--- 8 and 9 are the operations whose half is 4
-pub stepped-half : (w : ℕ) → operation w / 2 ≡ 4 → isStepped w ≡ true
+-- of 8 to 10 all but 10 have steps
+pub stepped-of : (w : ℕ) → 8 ≤ operation w → operation w < 11 → operation w ≢ 10 → isStepped w ≡ true
 unfolding isStepped
-stepped-half w h = go (ℕ-discrete (operation w) 8)
+stepped-of w l h t = go (ℕ-discrete (operation w) 8)
   where
     go : Dec (operation w ≡ 8) → eqb (operation w) 8 || eqb (operation w) 9 ≡ true
     go (yes e) = rw e
-    go (no z) = rw (ne-eqb (operation w) 8 z) (eq-eqb (operation w) 9 (omega (arith, h, z)))
+    go (no z) = rw (ne-eqb (operation w) 8 z) (eq-eqb (operation w) 9 (omega (arith, l, h, t, z)))
 
-pub unstepped-half : (w : ℕ) → operation w / 2 ≢ 4 → isStepped w ≡ false
+pub unstepped-of : (w : ℕ) → operation w ≢ 8 → operation w ≢ 9 → isStepped w ≡ false
 unfolding isStepped
-unstepped-half w h = rw (ne-eqb (operation w) 8 (λ z. h (rw z))) (ne-eqb (operation w) 9 (λ z. h (rw z)))
+unstepped-of w a b = rw (ne-eqb (operation w) 8 a) (ne-eqb (operation w) 9 b)
 
 module _ (w n : ℕ) (v : Visible) where
   pub kind-stepped : isStepped w ≡ true → kindOf w v n ≡ longer

@@ -1,8 +1,8 @@
 // The rows of the table but for row 5, one function each.
 // Paper: "Where calls are turned down", rows 3, 4, 6, 7 and 8.
-// A test over a list ends at the first word that fails it.
+// The test of program words ends at the first that fails it.
 ghost use mathlib.Core.Path.{_≡_};
-ghost use mathlib.Core.Bool.{not, _&&_, _||_};
+ghost use mathlib.Core.Bool.{cond, not, _&&_, _||_};
 ghost use Prim.Native.Nat.{_+_, _^_, _<_};
 ghost use lib.ListN.{length};
 ghost use lib.Dec.{eqb, ltb};
@@ -23,18 +23,27 @@ pub fn all_at_most_words(list: &[u32], limit: u32) -> bool
     true
 }
 
-// Whether no byte is above the limit.
+// The larger of two bytes.
+fn larger(a: u8, b: u8) -> u8
+    ensures { λ r. ⌜ r ≡ cond (ltb a b) b a ⌝ }
+{
+    if a < b {
+        return b;
+    }
+    a
+}
+
+// Whether no byte is above the limit: no early end, so that many bytes are looked at in one go.
 pub fn all_at_most_bytes(list: &[u8], limit: u8) -> bool
     ensures { λ r. ⌜ r ≡ allAtMost limit (now (list .entry)) ⌝ }
 {
+    let mut most: u8 = 0;
     let mut i: usize = 0;
     while i < list.len() {
-        if list[i] > limit {
-            return false;
-        }
+        most = larger(most, list[i]);
         i += 1;
     }
-    true
+    most <= limit
 }
 
 // Row 3: "no word, over 4,096, or one above 3FFFFH".

@@ -1,31 +1,32 @@
 -- The proof of trm_refusals::inner::rows::all_at_most_bytes.
+-- The bytes passed by are in the limit if the largest of them is.
 use native.Mathlib.Omega.{arith}
-use mathlib.Core.Path.{_≡_, refl, sym, _∙_}
+use mathlib.Core.Path.{_≡_, sym, _∙_}
+use mathlib.Core.Bool.{_&&_}
 use lib.ListN.{length, drop}
+use lib.Dec.{leb}
 use Prim.Native.Nat.{_-_}
+use borrow.Author.Tests.{le-leb}
+use borrow.Author.Needs.{needs}
 use Rattle.trm_core.specs.Refusals.{allAtMost}
-use Rattle.trm_refusals.proofs.Laws.{all-more, all-bad, all-end}
+use Rattle.trm_refusals.proofs.Laws.{most-more, most-end}
 use Rattle.trm_refusals.proofs.inner.rows.all_at_most_bytes.Statement.{statement}
 use Rattle.trm_refusals.proofs.inner.rows.all_at_most_bytes.Tie as tie
 
 abbrev Inv-loop : tie.InvT-loop
-Inv-loop list limit i₀ i = allAtMost limit (drop i list) ≡ allAtMost limit list
+Inv-loop list limit most₀ i₀ most i = (leb most limit && allAtMost limit (drop i list)) ≡ allAtMost limit list
 
 abbrev μ-loop : tie.MeasureT-loop
-μ-loop list limit i₀ i = length list - i
+μ-loop list limit most₀ i₀ most i = length list - i
 
 loop-holds : tie.Need-loop-holds Inv-loop μ-loop
-loop-holds c = refl
+loop-holds c = rw (le-leb 0 (c .before .args .limit) (omega arith))
 
-shared-slice-read-if1 : tie.Need-shared-slice-read-if1 Inv-loop μ-loop
-shared-slice-read-if1 c = omega arith
+shared-slice-read-larger : tie.Need-shared-slice-read-larger Inv-loop μ-loop
+shared-slice-read-larger c = omega arith
 
-returns : tie.Need-returns Inv-loop μ-loop
-returns c =
-    let loop-test = c .before .before .loop-test in
-    let if1 = c .if1 in
-    let loop = c .before .before .before .loop in
-    sym (all-bad _ _ _ (loop-test .taken) (if1 .taken)) ∙ loop .inv
+larger-requires : tie.Need-larger-requires Inv-loop μ-loop
+larger-requires c κs = search needs
 
 add-i : tie.Need-add-i Inv-loop μ-loop
 add-i c = omega arith
@@ -35,13 +36,16 @@ loop-less c = omega arith
 
 loop-again : tie.Need-loop-again Inv-loop μ-loop
 loop-again c =
-    let loop-test = c .before .before .loop-test in
-    let if1 = c .if1 in
     let loop = c .before .before .before .loop in
-    sym (all-more _ _ _ (loop-test .taken) (if1 .left)) ∙ loop .inv
+    let args = c .before .before .before .before .before .args in
+    rw (c .larger .ensures)
+    (most-more (args .limit) (loop .most) (args .list .now) (loop .i) (c .before .before .loop-test .taken) ∙ loop .inv)
 
-returns-2 : tie.Need-returns-2 Inv-loop μ-loop
-returns-2 c = sym (all-end _ _ _ (c .loop-test .left)) ∙ c .before .loop .inv
+returns : tie.Need-returns Inv-loop μ-loop
+returns c =
+    let loop = c .before .loop in
+    let args = c .before .before .before .args in
+    sym (most-end (args .limit) (loop .most) (args .list .now) (loop .i) (c .loop-test .left)) ∙ loop .inv
 
 pub all-at-most-bytes-spec : {M : Type 1} → statement M
 all-at-most-bytes-spec =
@@ -50,9 +54,9 @@ all-at-most-bytes-spec =
     Inv-loop
     μ-loop
     loop-holds
-    shared-slice-read-if1
-    returns
+    shared-slice-read-larger
+    larger-requires
     add-i
     loop-less
     loop-again
-    returns-2)
+    returns)
