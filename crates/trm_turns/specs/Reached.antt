@@ -3,16 +3,17 @@
 -- Assumes nothing.
 --   Point, point   where a run stands        Reached p ls is x₀ q bs ws   it began at x₀ and stands at q, the buffers being bs and ws
 --   At, Turned     what a turn asks and gives        Under, Stands, Quietly   the same of a turn that answers nothing
---   Room   what one clock with its answer asks        withSerial   the scalars after some steps
+--   Begins   the next clock begins a word        Room   what one clock with its answer asks        withSerial   the scalars after some steps
 use Prim.Native.Nat.{ℕ, _+_, _≤_, _<_}
 use mathlib.Core.Path.{_≡_}
-use mathlib.Core.Bool.{true}
+use mathlib.Core.Bool.{true, false}
 use mathlib.Core.List.{List, _++_}
 use lib.ListN.{length, getD, take, drop, replicate}
 use Rattle.trm_reference.specs.Geometry.{paperGeometry}
 use Rattle.trm_reference.specs.Visible.{wordAt}
 use Rattle.trm_reference.specs.Access.{Answer}
 use Rattle.trm_reference.specs.Trace.{pinsOf, After, clocks, endOf, outsOf, finishedIn}
+use Rattle.trm_reference.specs.Interrupt.{stalled, interruptChosen}
 use Rattle.trm_cache.specs.Cache.{Cache}
 use Rattle.trm_core.specs.Record.{Lent, whole}
 use Rattle.trm_core.specs.Clock.{clockOf}
@@ -93,6 +94,13 @@ pub record Under (ls : List ℕ) (w : ℕ) (q : Point) : Type 0 where
   pub from : Lent
   pub word : w ≡ wordAt program (q .lent .machine .scalars .pc)
   pub so : Reached program ls inputs from q bytes words
+
+-- a clock is there, nothing is in flight, and the clock is neither held nor takes an interrupt
+pub record Begins (ls : List ℕ) (g : Going) : Type 0 where
+  pub more : g .at < length ls
+  pub unheld : stalled (getD ls (g .at) 0) ≡ false
+  pub none : interruptChosen (g .scalars .status) (getD ls (g .at) 0) ≡ 0
+  pub idle : g .scalars .running .phase ≡ 0
 
 -- some run of some word stands here
 pub record Stands (ls : List ℕ) (q : Point) : Type 0 where

@@ -3,4 +3,6 @@
 // A function here may have a `requires`. Each has one caller or is small, so that all of it is inlined.
 pub mod ahead;
 pub mod going;
+pub mod ready;
 pub mod serial;
+pub mod turn;

@@ -16,10 +16,12 @@ ghost use Rattle.trm_core.specs.Rule.{widthsOk, countsOk};
 ghost use Rattle.trm_core.specs.Run.{runOf};
 ghost use Rattle.trm_steps.specs.Steps.{Multiplies, Divides, multiplied, dividedBy};
 ghost use Rattle.trm_engine.specs.Machine.{recordOf, withRunning, ticked, ranTo};
+use crate::inner::clear;
 use crate::machine::Machine;
 use trm_reading::inner::reading;
 use trm_steps::inner::interrupt;
 use trm_steps::inner::steps;
+use trm_turns::inner::going::Going;
 
 // A record after one clock, with the clock's answer.
 pub struct Ticked {
@@ -36,7 +38,8 @@ pub struct Finished {
 }
 
 impl Machine {
-    // A run: the record is taken apart once, one clock for each line byte, and put together once.
+    // A run: the record is taken apart once, turn after turn has the clocks of all line bytes, and it is put together once. The answer
+    // buffers are cleared first, so that only a clock with an answer writes to them.
     pub fn run(
         mut self,
         program: &[u32],
@@ -52,18 +55,23 @@ impl Machine {
             ≡ runOf paperGeometry (now (program .entry)) (record { machine = recordOf self; store = now (store .entry) })
             (now (lines .entry)) (now (inputs .entry)) ⌝ }
     {
-        let mut scalars = self.scalars;
+        let scalars = self.scalars;
         let mut regs = self.regs;
         let mut full = self.full;
         let mut dirty = self.dirty;
         let mut block = self.block;
         let mut cached = self.words;
         let charges = trm_word::inner::charge::base_charges();
-        let mut finished: u64 = 0;
-        let mut i: usize = 0;
-        while i < lines.len() {
-            let r = trm_clock::inner::clock::clock(
-                scalars,
+        clear::clear_bytes(bytes);
+        clear::clear_words(words);
+        let mut g = Going {
+            scalars: scalars,
+            at: 0,
+            finished: 0,
+        };
+        while g.at < lines.len() {
+            g = trm_turns::inner::turn::turn(
+                g,
                 program,
                 &mut regs,
                 &mut full,
@@ -71,18 +79,16 @@ impl Machine {
                 &mut block,
                 &mut cached,
                 store,
-                lines[i],
-                inputs[i],
+                lines,
+                inputs,
+                bytes,
+                words,
                 &charges,
             );
-            scalars = r.scalars;
-            bytes[i] = r.byte;
-            words[i] = r.word;
-            finished = finished + r.done;
-            i += 1;
         }
+        let after = g.scalars;
         let machine = Machine {
-            scalars: scalars,
+            scalars: after,
             regs: regs,
             full: full,
             dirty: dirty,
@@ -91,7 +97,7 @@ impl Machine {
         };
         Finished {
             machine: machine,
-            finished: finished,
+            finished: g.finished,
         }
     }
 

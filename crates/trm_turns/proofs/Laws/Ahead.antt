@@ -6,11 +6,14 @@
 use Prim.Native.Nat.{ℕ, _+_, _*_, _/_, _%_, _≤_, _<_, _^_}
 use mathlib.Core.Path.{_≡_, refl, sym, ap, _∙_, subst}
 use mathlib.Core.Logic.{_≢_}
-use mathlib.Core.Bool.{Bool, true, false, cond}
+use mathlib.Core.Bool.{Bool, true, false, cond, not, _&&_}
 use mathlib.Core.List.{List}
 use lib.ListN.{length, getD}
-use borrow.Author.Tests.{ne-eqb}
+use lib.Dec.{ltb}
+use borrow.Author.Tests.{ne-eqb, lt-ltb}
+use native.Mathlib.Decide.{ℕ-discrete}
 use native.Mathlib.Omega.{arith}
+use Rattle.trm_laws.proofs.Tests.{bool-clash}
 use Rattle.trm_word.specs.Fields.{operation}
 use Rattle.trm_word.specs.Charge.{chargeOf}
 use Rattle.trm_reference.specs.Geometry.{paperGeometry, burst}
@@ -39,10 +42,11 @@ pub record On (ls : List ℕ) (w k : ℕ) (g h : Going) (rs : List ℕ) (ca ca�
   pub quietly : Quietly ls w (point g rs ca s) (point h rs ca′ s′)
   pub seen : gathered (h .scalars) rs ≡ gathered (g .scalars) rs
   pub phase : h .scalars .running .phase ≡ k
+  pub onto : g .at ≤ h .at
 
 pub on-none : (ls : List ℕ) (w k : ℕ) (g : Going) (rs : List ℕ) (ca : Cache) (s : List ℕ) → g .scalars .running .phase ≡ k
     → On ls w k g g rs ca ca s s
-on-none ls w k g rs ca s e = record { quietly = λ p is bs ws x₀ at r. r; seen = refl; phase = e }
+on-none ls w k g rs ca s e = record { quietly = λ p is bs ws x₀ at r. r; seen = refl; phase = e; onto = omega arith }
 
 -- one clock more, with the same words carried out
 abbrev pub onward : Going → Scalars → Going
@@ -82,6 +86,7 @@ module _ (ls : List ℕ) (w k : ℕ) (g h : Going) (rs : List ℕ) (ca ca′ : C
           (held-here p (h .scalars) rs ca′ s′ (record { line = line; input = getD is (h .at) 0 }) t));
       seen = inv .seen;
       phase = inv .phase;
+      onto = omega (arith, inv .onto);
     }
 
     pub moved-on : stalled line ≡ false → k ≢ 0 → (f : List ℕ → Moved) → Does w (length s′) (h .scalars) rs ca′ f
@@ -96,6 +101,7 @@ module _ (ls : List ℕ) (w k : ℕ) (g h : Going) (rs : List ℕ) (ca ca′ : C
           (λ z. some (sym (inv .phase) ∙ z)) f d next 0 0 ca″ s″ m));
       seen = inv .seen;
       phase = ph;
+      onto = omega (arith, inv .onto);
     }
 
 filling-more : (b l k : ℕ) (c : Scalars) (ca : Cache) (s : List ℕ) → k ≢ 9
@@ -299,3 +305,21 @@ module _ (ls : List ℕ) (w : ℕ) (g : Going) (sr : Serial) (k : ℕ) (rs : Lis
     c .clocks,
     omega (arith, c .held, c .clocks),
   )
+
+-- a place that is not held is past one that is
+pub past-held : (ls : List ℕ) (i j : ℕ) → i ≤ j → stalled (getD ls i 0) ≡ true → stalled (getD ls j 0) ≡ false → i < j
+past-held ls i j h t f = go (ℕ-discrete i j)
+  where
+    go : Dec (i ≡ j) → i < j
+    go (yes e) = bool-clash (stalled (getD ls j 0)) (subst (λ k. stalled (getD ls k 0) ≡ true) e t) f
+    go (no z) = omega (arith, h, z)
+
+-- and the other way round
+pub past-free : (ls : List ℕ) (i j : ℕ) (d : Bool) → i ≤ j → i < length ls → stalled (getD ls i 0) ≡ false
+    → d ≡ (ltb j (length ls) && not (stalled (getD ls j 0))) → d ≡ false → i < j
+past-free ls i j d h m f e q = go (ℕ-discrete i j)
+  where
+    go : Dec (i ≡ j) → i < j
+    go (yes y) = bool-clash d (e ∙ subst (λ k. (ltb k (length ls) && not (stalled (getD ls k 0))) ≡ true) y
+        (rw (lt-ltb i (length ls) m, f))) q
+    go (no z) = omega (arith, h, z)

@@ -4,7 +4,7 @@
 ghost use mathlib.Core.Path.{_≡_};
 ghost use mathlib.Core.Bool.{true, cond};
 ghost use Prim.Native.Nat.{ℕ, _+_, _*_, _≤_, _<_};
-ghost use lib.ListN.{length};
+ghost use lib.ListN.{length, getD};
 ghost use Rattle.trm_word.specs.Charge.{charges};
 ghost use Rattle.trm_reference.specs.Geometry.{paperGeometry};
 ghost use Rattle.trm_reference.specs.Interrupt.{stalled};
@@ -31,12 +31,13 @@ pub fn held_ahead(
     store: &[u32],
     lines: &[u8],
 ) -> Going
-    requires { ⌜ Stands (now lines) (point g (now regs) (cache (now full) (now dirty) (now block) (now words)) (now store)) ⌝ }
+    requires { ⌜ Stands (now lines) (point g (now regs) (cache (now full) (now dirty) (now block) (now words)) (now store))
+        × (g .at < length (now lines)) × (stalled (getD (now lines) (g .at) 0) ≡ true) ⌝ }
     ensures { λ r. ⌜ ((w : ℕ) → Quietly (now (lines .entry)) w
         (point g (now (regs .entry)) (cache (now (full .entry)) (now (dirty .entry)) (now (block .entry)) (now (words .entry)))
         (now (store .entry)))
         (point r (now (regs .entry)) (cache (now (full .entry)) (now (dirty .entry)) (now (block .entry)) (now (words .entry)))
-        (now (store .entry)))) ⌝ }
+        (now (store .entry)))) × (g .at < r .at) ⌝ }
 {
     let mut c = g.scalars;
     let mut i = g.at;
@@ -104,7 +105,7 @@ pub fn fill_ahead(
         (now (store .entry)))
         (point r (now (regs .entry)) (cache (now (full .entry)) (now (dirty .entry)) (now (block .entry)) (now (words .exit)))
         (now (store .entry)))
-        × (r .scalars .pc ≡ g .scalars .pc) × (r .scalars .running .phase ≡ 3) ⌝ }
+        × (r .scalars .pc ≡ g .scalars .pc) × (r .scalars .running .phase ≡ 3) × (g .at ≤ r .at) ⌝ }
 {
     let b = reading::target_of(g.scalars, regs, w, store.len() as u64) / 8;
     let l = (b % 16) as usize;
@@ -173,7 +174,7 @@ pub fn write_ahead(
         (now (store .entry)))
         (point r (now (regs .entry)) (cache (now (full .entry)) (now (dirty .entry)) (now (block .entry)) (now (words .entry)))
         (now (store .exit)))
-        × (r .scalars .pc ≡ g .scalars .pc) × (r .scalars .running .phase ≡ 2) ⌝ }
+        × (r .scalars .pc ≡ g .scalars .pc) × (r .scalars .running .phase ≡ 2) × (g .at ≤ r .at) ⌝ }
 {
     let mut c = g.scalars;
     let clears = reading::turns_cache_off(c, regs, w);
@@ -238,7 +239,7 @@ pub fn wait_ahead(
         (now (store .entry)))
         (point r (now (regs .entry)) (cache (now (full .entry)) (now (dirty .entry)) (now (block .entry)) (now (words .entry)))
         (now (store .entry)))
-        × (r .scalars .pc ≡ g .scalars .pc) × (r .scalars .running .phase ≡ 4) ⌝ }
+        × (r .scalars .pc ≡ g .scalars .pc) × (r .scalars .running .phase ≡ 4) × (g .at ≤ r .at) ⌝ }
 {
     let all = base[(w / 0x4000 % 16) as usize] + 4;
     let mut c = g.scalars;

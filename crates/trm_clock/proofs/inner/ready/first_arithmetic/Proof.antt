@@ -25,9 +25,11 @@ returns c = let g = c .before .before .before .before .before .pre in let o = c 
     (c .carried .ensures) (c .before .rotate .ensures .0) (c .before .rotate .ensures .1))
 
 first-step-requires : tie.Need-first-step-requires
-first-step-requires c κs = let g = c .before .before .before .pre in
-    (first-longer _ _ _ _ _ (facts _ _ _ _ _ (g .0)) (g .1)
-    (kind-stepped _ _ _ (stepped-of _ (g .2) (g .3) (c .before .if1 .left))) .1, g .1)
+first-step-requires c κs = let g = c .before .before .before .pre in (
+  first-longer _ _ _ _ _ (facts _ _ _ _ _ (g .0)) (g .1)
+      (kind-stepped _ _ _ (stepped-of _ (g .2) (g .3) (c .before .if1 .left))) .1,
+  g .1,
+)
 
 goes-on-requires : tie.Need-goes-on-requires
 goes-on-requires c κs = (c .before .before .before .before .pre .0 .counts, omega arith, omega arith)

@@ -31,7 +31,7 @@ loop-holds : tie.Need-loop-holds Inv-loop μ-loop
 loop-holds c = on-none _ _ _ _ _ _ _ (c .before .before .before .before .pre .1)
 
 returns : tie.Need-returns Inv-loop μ-loop
-returns c = let n = c .before .before .before .loop .inv in (n .quietly, ap (λ (v : Visible). v .pc) (n .seen), n .phase)
+returns c = let n = c .before .before .before .loop .inv in (n .quietly, ap (λ (v : Visible). v .pc) (n .seen), n .phase, n .onto)
 
 shared-slice-read-fill-clock : tie.Need-shared-slice-read-fill-clock Inv-loop μ-loop
 shared-slice-read-fill-clock c = c .before .before .before .before .loop-test .taken
@@ -49,7 +49,7 @@ loop-again : tie.Need-loop-again Inv-loop μ-loop
 loop-again c = let n = c .before .before .before .before .before .before .loop .inv in let u = c .before .before .before .before .before .before .before .before .before .before .before .pre .0 in fill-on _ _ _ _ _ _ _ _ _ u n (c .before .before .before .before .before .loop-test .taken) (c .before .before .before .if1 .left) _ (fill-block _ _ _ _ _ _ _ _ _ u n _ (c .before .before .before .before .before .before .before .before .target-of .ensures)) _ _ (c .fill-clock .ensures .0) (c .fill-clock .ensures .1)
 
 returns-2 : tie.Need-returns-2 Inv-loop μ-loop
-returns-2 c = let n = c .before .loop .inv in (n .quietly, ap (λ (v : Visible). v .pc) (n .seen), n .phase)
+returns-2 c = let n = c .before .loop .inv in (n .quietly, ap (λ (v : Visible). v .pc) (n .seen), n .phase, n .onto)
 
 pub fill-ahead-spec : {M : Type 1} → statement M
 fill-ahead-spec =

@@ -1,4 +1,6 @@
 -- The proof of trm_turns::inner::ahead::held_ahead.
+use Rattle.trm_turns.proofs.Laws.Ahead.{past-held}
+use borrow.Author.Tests.{not-true}
 use Rattle.trm_turns.proofs.Laws.Ahead.{On, on-none, good-on, held-on}
 use borrow.Author.Tests.{not-false}
 use native.Mathlib.Omega.{arith}
@@ -36,13 +38,13 @@ is-stalled-requires : tie.Need-is-stalled-requires Inv-loop μ-loop
 is-stalled-requires c κs = search needs
 
 returns : tie.Need-returns Inv-loop μ-loop
-returns c = λ w. c .before .before .before .before .loop .inv w .quietly
+returns c = (λ w. c .before .before .before .before .loop .inv w .quietly, past-held (c .before .before .before .before .before .before .before .before .args .lines .now) _ _ (c .before .before .before .before .loop .inv 0 .onto) (c .before .before .before .before .before .before .before .before .pre .2) (sym (c .before .is-stalled .ensures) ∙ not-true (c .before .is-stalled .result) (c .if1 .taken)))
 
 hold-requires : tie.Need-hold-requires Inv-loop μ-loop
-hold-requires c κs = let u = c .before .before .before .before .before .before .before .before .pre in good-on _ _ _ _ _ _ _ _ _ _ (c .before .before .before .before .loop .inv (u .word)) (u .under) .counts
+hold-requires c κs = let u = c .before .before .before .before .before .before .before .before .pre .0 in good-on _ _ _ _ _ _ _ _ _ _ (c .before .before .before .before .loop .inv (u .word)) (u .under) .counts
 
 add-i : tie.Need-add-i Inv-loop μ-loop
-add-i c = omega (arith, c .before .before .before .before .loop-test .taken, c .before .before .before .before .before .before .before .before .before .pre .under .so .feed .many)
+add-i c = omega (arith, c .before .before .before .before .loop-test .taken, c .before .before .before .before .before .before .before .before .before .pre .0 .under .so .feed .many)
 
 loop-less : tie.Need-loop-less Inv-loop μ-loop
 loop-less c = omega (arith, c .before .before .before .before .loop-test .taken)
@@ -51,7 +53,7 @@ loop-again : tie.Need-loop-again Inv-loop μ-loop
 loop-again c = λ w. rw (c .hold .ensures) (held-on _ _ _ _ _ _ _ _ _ _ (c .before .before .before .before .before .loop .inv w) (c .before .before .before .before .loop-test .taken) (sym (c .before .before .is-stalled .ensures) ∙ not-false (c .before .before .is-stalled .result) (c .before .if1 .left)))
 
 returns-2 : tie.Need-returns-2 Inv-loop μ-loop
-returns-2 c = λ w. c .before .loop .inv w .quietly
+returns-2 c = (λ w. c .before .loop .inv w .quietly, omega (arith, c .before .before .before .before .before .pre .1, c .loop-test .left))
 
 pub held-ahead-spec : {M : Type 1} → statement M
 held-ahead-spec =

@@ -51,7 +51,7 @@ add-if1 c = omega (arith, few-clocks _ _ _ _ _ (wait-facts _ _ _ _ _ _ _ _ _ (c 
 
 returns : tie.Need-returns Inv-loop μ-loop
 unfolding uncachedCharge
-returns c = let n = c .before .before .before .loop .inv in (n .quietly, ap (λ (v : Visible). v .pc) (n .seen), n .phase)
+returns c = let n = c .before .before .before .loop .inv in (n .quietly, ap (λ (v : Visible). v .pc) (n .seen), n .phase, n .onto)
 
 shared-slice-read-wait-clock : tie.Need-shared-slice-read-wait-clock Inv-loop μ-loop
 unfolding uncachedCharge
@@ -75,7 +75,7 @@ loop-again c = let n = c .before .before .before .before .before .loop .inv in l
 
 returns-2 : tie.Need-returns-2 Inv-loop μ-loop
 unfolding uncachedCharge
-returns-2 c = let n = c .before .loop .inv in (n .quietly, ap (λ (v : Visible). v .pc) (n .seen), n .phase)
+returns-2 c = let n = c .before .loop .inv in (n .quietly, ap (λ (v : Visible). v .pc) (n .seen), n .phase, n .onto)
 
 pub wait-ahead-spec : {M : Type 1} → statement M
 wait-ahead-spec =

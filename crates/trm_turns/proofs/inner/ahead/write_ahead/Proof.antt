@@ -39,7 +39,7 @@ same-length : tie.Need-same-length Inv-loop μ-loop
 same-length c = long-on _ _ _ _ _ _ _ _ _ _ (c .before .before .before .loop .inv) (c .before .before .before .before .before .before .before .before .before .pre .0)
 
 returns : tie.Need-returns Inv-loop μ-loop
-returns c = let n = c .before .before .before .loop .inv in (n .quietly, ap (λ (v : Visible). v .pc) (n .seen), n .phase)
+returns c = let n = c .before .before .before .loop .inv in (n .quietly, ap (λ (v : Visible). v .pc) (n .seen), n .phase, n .onto)
 
 shared-slice-read-write-clock : tie.Need-shared-slice-read-write-clock Inv-loop μ-loop
 shared-slice-read-write-clock c = c .before .before .before .before .loop-test .taken
@@ -60,7 +60,7 @@ same-length-2 : tie.Need-same-length-2 Inv-loop μ-loop
 same-length-2 c = long-on _ _ _ _ _ _ _ _ _ _ (c .before .loop .inv) (c .before .before .before .before .before .before .before .pre .0)
 
 returns-2 : tie.Need-returns-2 Inv-loop μ-loop
-returns-2 c = let n = c .before .loop .inv in (n .quietly, ap (λ (v : Visible). v .pc) (n .seen), n .phase)
+returns-2 c = let n = c .before .loop .inv in (n .quietly, ap (λ (v : Visible). v .pc) (n .seen), n .phase, n .onto)
 
 pub write-ahead-spec : {M : Type 1} → statement M
 write-ahead-spec =

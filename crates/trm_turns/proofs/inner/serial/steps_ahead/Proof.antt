@@ -44,7 +44,7 @@ after-serial-requires : tie.Need-after-serial-requires Inv-loop μ-loop
 after-serial-requires c κs = serial-room _ _ _ _ _ _ _ _ (c .before .before .before .before .before .before .before .before .before .before .pre .0) (c .before .before .before .before .loop .inv .0)
 
 returns : tie.Need-returns Inv-loop μ-loop
-returns c = let n = c .before .before .before .before .before .loop .inv .0 in rw (c .after-serial .ensures) (n .quietly, ap (λ (v : Visible). v .pc) (n .seen), n .phase)
+returns c = let n = c .before .before .before .before .before .loop .inv .0 in rw (c .after-serial .ensures) (n .quietly, ap (λ (v : Visible). v .pc) (n .seen), n .phase, n .onto)
 
 add-serial-clock : tie.Need-add-serial-clock Inv-loop μ-loop
 add-serial-clock c = omega (arith, c .before .before .before .before .before .loop .inv .2, c .before .before .before .before .before .before .before .before .before .before .before .pre .0 .so .feed .many)
@@ -68,7 +68,7 @@ after-serial-requires-2 : tie.Need-after-serial-requires-2 Inv-loop μ-loop
 after-serial-requires-2 c κs = serial-room _ _ _ _ _ _ _ _ (c .before .before .before .before .before .before .before .before .pre .0) (c .before .before .loop .inv .0)
 
 returns-2 : tie.Need-returns-2 Inv-loop μ-loop
-returns-2 c = let n = c .before .before .before .loop .inv .0 in rw (c .after-serial2 .ensures) (n .quietly, ap (λ (v : Visible). v .pc) (n .seen), n .phase)
+returns-2 c = let n = c .before .before .before .loop .inv .0 in rw (c .after-serial2 .ensures) (n .quietly, ap (λ (v : Visible). v .pc) (n .seen), n .phase, n .onto)
 
 pub steps-ahead-spec : {M : Type 1} → statement M
 steps-ahead-spec =
