@@ -68,30 +68,37 @@ fn show_answer(byte: u8, word: u32) {
     print::word(word);
 }
 
-fn show_clock(r: Clock) {
+fn show_clock(r: Clock, store: &[u32]) {
     let refused = r.refused;
     print::decimal(number(refused));
     show_answer(r.byte, r.word);
     print::decimal(r.finished);
+    show_all(r.machine, store);
 }
 
 // One clock, with a line byte and an input word: the number, the answer byte and word, 1 if it finished an instruction; all.
 pub fn clock(c: Case, m: Machine, program: &[u32], store: &mut [u32]) -> Machine {
     let r = calls::clock(m, program, store, (c.w0 % 256) as u8, c.w1);
-    show_clock(r);
-    let next = r.machine;
-    show_all(next, store);
-    next
+    show_clock(r, store);
+    r.machine
 }
 
-fn show_run(r: Run) {
+fn show_run(r: Run, store: &[u32]) {
     let refused = r.refused;
     print::decimal(number(refused));
     print::decimal(r.used);
     print::decimal(r.finished);
+    show_all(r.machine, store);
 }
 
-// A run: all, and all of both answer buffers; then the watch over its answer bytes.
+// All of both answer buffers, and the watch over the answer bytes.
+fn show_buffers(bytes: &[u8], words: &[u32], device: u32) {
+    print::hex(digest::of_bytes(bytes), 8);
+    print::hex(digest::of_words(words), 8);
+    show_watch(bytes, device);
+}
+
+// A run, and then the watch.
 fn run_watched(
     m: Machine,
     program: &[u32],
@@ -103,19 +110,15 @@ fn run_watched(
     device: u32,
 ) -> Machine {
     let r = calls::run(m, program, store, lines, inputs, bytes, words);
-    show_run(r);
-    let next = r.machine;
-    show_all(next, store);
-    print::hex(digest::of_bytes(bytes), 8);
-    print::hex(digest::of_words(words), 8);
-    show_watch(bytes, device);
-    next
+    show_run(r, store);
+    show_buffers(bytes, words, device);
+    r.machine
 }
 
 // A run of c.w0 clocks, at most 65,537. Of c.w1 bits 3-0 say how many more input words than line bytes there are, 1 being none,
 // bits 7-4 so of the answer bytes, bits 11-8 of the answer words; the bits above are the device that is watched. Of c.w2 bits 7-0
 // are the line byte of every clock but that of number bits 31-16, whose line byte is bits 15-8. c.w3 is the input word.
-// The number, the clocks used, the instructions finished; all; the answer of clock c.w2 / 65536.
+// The number, the clocks used, the instructions finished; all; the buffers and the watch; the answer of clock c.w2 / 65536.
 pub fn run(c: Case, m: Machine, program: &[u32], store: &mut [u32]) -> Machine {
     let at = (c.w2 / 65536) as usize;
     let lines = lists::bytes_but_one(c.w2);

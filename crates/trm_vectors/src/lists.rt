@@ -4,7 +4,6 @@
 ghost use Prim.Native.Nat.{_≤_};
 ghost use mathlib.Core.Path.{_≡_};
 ghost use lib.ListN.{length};
-ghost use Rattle.io.specs.Counts.{Counts};
 use crate::print;
 
 // 65,537 bytes of one value. That callers know its length alone keeps the check of them small.
@@ -39,7 +38,7 @@ pub fn length_of(n: u32, more: u32) -> usize
 
 // So many words, or all that there are if that is less.
 pub fn within(list: &[u32], n: u32) -> usize
-    ensures { λ r. ⌜ Counts r (now (list .entry)) ⌝ }
+    ensures { λ r. ⌜ r ≤ length (now (list .entry)) ⌝ }
 {
     if (n as usize) < list.len() {
         n as usize
