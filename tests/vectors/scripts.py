@@ -395,7 +395,7 @@ def order(s):
     s.run(6, 65537, more=(0, -1, -1), at=65535)
 
 
-PARTS = [starred_addresses, starred_cache, lengths, listing, clock_table, misreadings,
+PARTS = [starred_addresses, starred_cache, lengths, listing, clock_table, misreadings, begin,
          row_3, row_4, row_5, row_6, row_7, row_8, row_9, order]
 
 
