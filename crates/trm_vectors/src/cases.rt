@@ -1,27 +1,15 @@
 // Each kind of case: what it asks of the library, and how the answer is printed.
 // A operation B A CV; M steps B A; D steps B A; C condition NZCV; E s register offset; P address length;
-// T operation; W word; I form field field field; N.
-ghost use mathlib.Core.Path.{_≡_};
-ghost use lib.ListN.{length};
+// T operation; W word; I form field field field; N; the other letters are lines of a script (script.rt).
 use crate::arithmetic;
-use crate::line;
 use crate::line::Case;
 use crate::print;
 use crate::words;
 use trm_word::inner::address;
 use trm_word::inner::address::Place;
 
-// A case with its line in front and its line end behind.
-pub fn run_case(s: &[u8])
-    requires { ⌜ length (now s) ≡ 38 ⌝ }
-{
-    io::write_all(1, &s[..37]);
-    io::write_all(1, b" ->");
-    answer(line::case_of(s));
-    io::write_all(1, b"\n");
-}
-
-fn answer(c: Case) {
+// A case that stands alone; nothing for another letter.
+pub fn answer(c: Case) {
     let kind = c.kind;
     match kind {
         b'A' => arithmetic::operation(c.w0, c.w1, c.w2, c.w3),
@@ -34,7 +22,7 @@ fn answer(c: Case) {
         b'W' => words::decode(c.w0),
         b'I' => words::encode(c.w0, c.w1, c.w2, c.w3),
         b'N' => words::count_canonical(),
-        _ => print::text(b"unknown"),
+        _ => {}
     }
 }
 

@@ -1,11 +1,7 @@
 // A case as a line of fixed width: a letter, then four words, each a space and eight hexadecimal digits.
-// The line's end is its last byte.
+// The line's end, one byte more, is read apart.
 // A byte that is no digit counts as 0.
 ghost use Prim.Native.Nat.{_<_, _≤_, _+_};
-ghost use mathlib.Core.Path.{_≡_};
-ghost use lib.ListN.{length};
-
-pub const WIDTH: usize = 38;
 
 pub struct Case {
     pub kind: u8,
@@ -26,8 +22,8 @@ fn digit(c: u8) -> u32
 }
 
 // Two digits.
-fn byte_at(s: &[u8], at: usize) -> u32
-    requires { ⌜ at + 2 ≤ length (now s) ⌝ }
+fn byte_at(s: &[u8; 37], at: usize) -> u32
+    requires { ⌜ at + 2 ≤ 37 ⌝ }
     ensures { λ r. ⌜ r < 256 ⌝ }
 {
     let high = digit(s[at]);
@@ -36,8 +32,8 @@ fn byte_at(s: &[u8], at: usize) -> u32
 }
 
 // Eight digits.
-fn word_at(s: &[u8], at: usize) -> u32
-    requires { ⌜ at + 8 ≤ length (now s) ⌝ }
+fn word_at(s: &[u8; 37], at: usize) -> u32
+    requires { ⌜ at + 8 ≤ 37 ⌝ }
 {
     let a = byte_at(s, at);
     let b = byte_at(s, at + 2);
@@ -46,9 +42,7 @@ fn word_at(s: &[u8], at: usize) -> u32
     a * 0x100_0000 + b * 0x1_0000 + c * 0x100 + d
 }
 
-pub fn case_of(s: &[u8]) -> Case
-    requires { ⌜ length (now s) ≡ 38 ⌝ }
-{
+pub fn case_of(s: &[u8; 37]) -> Case {
     let kind = s[0];
     let a = word_at(s, 2);
     let b = word_at(s, 11);
@@ -60,5 +54,16 @@ pub fn case_of(s: &[u8]) -> Case
         w1: b,
         w2: c,
         w3: d,
+    }
+}
+
+// No case.
+pub fn none() -> Case {
+    Case {
+        kind: 0,
+        w0: 0,
+        w1: 0,
+        w2: 0,
+        w3: 0,
     }
 }

@@ -12,6 +12,10 @@ pub fn hex(n: u64, width: usize) {
     io::print_hex(1, n, width);
 }
 
+pub fn word(w: u32) {
+    hex(w as u64, 8);
+}
+
 pub fn decimal(n: u64) {
     io::write_all(1, b" ");
     io::print_decimal(1, n);

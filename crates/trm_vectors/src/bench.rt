@@ -1,0 +1,187 @@
+// The machine on the bench, and the calls on it: reset, the clock call, the run, a look, a copy, the watch, with any lengths.
+// Paper: "The clock call takes the record and returns it"; "A run carries out one clock per line byte"; "A look gives one word ..".
+// A call prints its number, 0 if it is not refused, then what it reports. Answer buffers hold A5H in every byte before a call.
+use crate::digest;
+use crate::fields;
+use crate::line::Case;
+use crate::lists;
+use crate::print;
+use trm_calls::answer::Clock;
+use trm_calls::answer::Run;
+use trm_calls::calls;
+use trm_calls::observe;
+use trm_core::watch::Sighting;
+use trm_engine::machine::Machine;
+use trm_refusals::refusal::Refusal;
+
+// The record, and how many words of the program and of the store are lent.
+pub struct Bench {
+    pub machine: Machine,
+    pub program: u32,
+    pub store: u32,
+}
+
+// Nothing is lent yet, and the record is that of a reset with 64 words.
+pub fn start() -> Bench {
+    let store = [0u32; 64];
+    let r = calls::reset(&store);
+    let m = r.machine;
+    Bench {
+        machine: m,
+        program: 0,
+        store: 0,
+    }
+}
+
+fn number(refused: Refusal) -> u64 {
+    match refused {
+        Refusal::Accepted => 0,
+        Refusal::Program => 3,
+        Refusal::Store => 4,
+        Refusal::Record => 5,
+        Refusal::Lines => 6,
+        Refusal::Buffers => 7,
+        Refusal::Clocks => 8,
+        Refusal::Place => 9,
+    }
+}
+
+// All of the record and of the store.
+fn show_all(m: Machine, store: &[u32]) {
+    print::hex(fields::digest_of(m), 8);
+    print::hex(digest::of_words(store), 8);
+}
+
+// A reset: its number. A refused one leaves the record on the bench.
+pub fn reset(m: Machine, store: &[u32]) -> Machine {
+    let r = calls::reset(store);
+    let refused = r.refused;
+    let n = number(refused);
+    print::decimal(n);
+    let next = if n == 0 { r.machine } else { m };
+    show_all(next, store);
+    next
+}
+
+fn show_answer(byte: u8, word: u32) {
+    print::hex(byte as u64, 2);
+    print::word(word);
+}
+
+fn show_clock(r: Clock, store: &[u32]) {
+    let refused = r.refused;
+    print::decimal(number(refused));
+    show_answer(r.byte, r.word);
+    print::decimal(r.finished);
+    show_all(r.machine, store);
+}
+
+// One clock, with a line byte and an input word: the number, the answer byte and word, 1 if it finished an instruction; all.
+pub fn clock(c: Case, m: Machine, program: &[u32], store: &mut [u32]) -> Machine {
+    let r = calls::clock(m, program, store, (c.w0 % 256) as u8, c.w1);
+    show_clock(r, store);
+    r.machine
+}
+
+fn show_run(r: Run, store: &[u32]) {
+    let refused = r.refused;
+    print::decimal(number(refused));
+    print::decimal(r.used);
+    print::decimal(r.finished);
+    show_all(r.machine, store);
+}
+
+// All of both answer buffers, and the watch over the answer bytes.
+fn show_buffers(bytes: &[u8], words: &[u32], device: u32) {
+    print::hex(digest::of_bytes(bytes), 8);
+    print::hex(digest::of_words(words), 8);
+    show_watch(bytes, device);
+}
+
+// A run, and then the watch.
+fn run_watched(
+    m: Machine,
+    program: &[u32],
+    store: &mut [u32],
+    lines: &[u8],
+    inputs: &[u32],
+    bytes: &mut [u8],
+    words: &mut [u32],
+    device: u32,
+) -> Machine {
+    let r = calls::run(m, program, store, lines, inputs, bytes, words);
+    show_run(r, store);
+    show_buffers(bytes, words, device);
+    r.machine
+}
+
+// A run of c.w0 clocks, at most 65,537. Of c.w1 bits 3-0 say how many more input words than line bytes there are, 1 being none,
+// bits 7-4 so of the answer bytes, bits 11-8 of the answer words; the bits above are the device that is watched. Of c.w2 bits 7-0
+// are the line byte of every clock but that of number bits 31-16, whose line byte is bits 15-8. c.w3 is the input word.
+// The number, the clocks used, the instructions finished; all; the buffers and the watch; the answer of clock c.w2 / 65536.
+pub fn run(c: Case, m: Machine, program: &[u32], store: &mut [u32]) -> Machine {
+    let at = (c.w2 / 65536) as usize;
+    let lines = lists::bytes_but_one(c.w2);
+    let inputs = lists::words_of(c.w3);
+    let mut bytes = lists::bytes_of(0xA5);
+    let mut words = lists::words_of(0xA5A5A5A5);
+    let n = lists::length_of(c.w0, 1);
+    let i = lists::length_of(c.w0, c.w1 % 16);
+    let j = lists::length_of(c.w0, c.w1 / 16 % 16);
+    let k = lists::length_of(c.w0, c.w1 / 256 % 16);
+    let next = run_watched(
+        m,
+        program,
+        store,
+        &lines[..n],
+        &inputs[..i],
+        &mut bytes[..j],
+        &mut words[..k],
+        c.w1 / 4096,
+    );
+    show_answer(bytes[at], words[at]);
+    next
+}
+
+// One word of data memory.
+pub fn look(m: Machine, program: &[u32], store: &[u32], address: u32) {
+    let r = observe::look(m, program, store, address);
+    let refused = r.refused;
+    print::decimal(number(refused));
+    print::word(r.word);
+}
+
+// A copy into a buffer: the number, and all of the buffer.
+fn show_copy(m: Machine, program: &[u32], store: &[u32], buffer: &mut [u32]) {
+    let refused = observe::copy(m, program, store, buffer);
+    print::decimal(number(refused));
+    print::hex(digest::of_words(buffer), 8);
+}
+
+// A copy into so many words, at most 65,537; then one word of the buffer.
+pub fn copy(m: Machine, program: &[u32], store: &[u32], length: u32, at: u32) {
+    let mut buffer = lists::words_of(0xA5A5A5A5);
+    let n = length as usize % 65538;
+    let i = at as usize % 65537;
+    show_copy(m, program, store, &mut buffer[..n]);
+    print::word(buffer[i]);
+}
+
+// The watch's number, and the clock or none.
+fn show_watch(bytes: &[u8], device: u32) {
+    let r = observe::watch(bytes, device);
+    let refused = r.refused;
+    print::decimal(number(refused));
+    let sighting = r.sighting;
+    match sighting {
+        Sighting::Clock(k) => print::decimal(k),
+        Sighting::Nowhere => print::text(b"none"),
+    }
+}
+
+// A watch for a device over so many answer bytes, at most 65,537, that a word gives as it gives the line bytes of a run.
+pub fn watch(length: u32, device: u32, w: u32) {
+    let bytes = lists::bytes_but_one(w);
+    let n = length as usize % 65538;
+    show_watch(&bytes[..n], device);
+}

@@ -1,0 +1,42 @@
+// Digests, so that a line can show that a whole record, store or buffer is as it should be.
+// Paper: a refused call "writes nothing"; what an accepted one leaves is held against a second machine.
+// A value goes in as its low and its high 32 bits: each time the digest is multiplied by 31 and the half added, mod 4,294,967,291.
+
+// A half that goes in.
+fn mixed_half(d: u64, half: u64) -> u64 {
+    (d % 4294967291 * 31 + half % 0x1_0000_0000) % 4294967291
+}
+
+pub fn mixed(d: u64, value: u64) -> u64 {
+    mixed_half(mixed_half(d, value), value / 0x1_0000_0000)
+}
+
+fn mixed_word(d: u64, word: u32) -> u64 {
+    mixed_half(d, word as u64)
+}
+
+fn mixed_byte(d: u64, byte: u8) -> u64 {
+    mixed_half(d, byte as u64)
+}
+
+// Every word of a list, in order.
+pub fn of_words(list: &[u32]) -> u64 {
+    let mut d: u64 = 0;
+    let mut at: usize = 0;
+    while at < list.len() {
+        d = mixed_word(d, list[at]);
+        at += 1;
+    }
+    d
+}
+
+// Every byte of a list, in order.
+pub fn of_bytes(list: &[u8]) -> u64 {
+    let mut d: u64 = 0;
+    let mut at: usize = 0;
+    while at < list.len() {
+        d = mixed_byte(d, list[at]);
+        at += 1;
+    }
+    d
+}

@@ -1,0 +1,182 @@
+# The bench of the program trm_vectors as a script sees it: its lines, its answers, and the machine that they leave.
+# Called: imported by tests/vectors/scripts.py; it does nothing when run.
+# Reads: tests/machine/. What clocks do is told by machine.py there; a script gives each call's refusal number, 0 for none.
+import sys
+from pathlib import Path
+
+sys.dont_write_bytecode = True
+sys.path.insert(0, str(Path(__file__).resolve().parents[1] / 'machine'))
+import machine as m
+import refused
+
+FIELDS = ['pc', 'h', 'n', 'z', 'c', 'v', 'status', 'phase', 'count', 'product', 'remainder', 'quotient', 'store_len', 'clocks',
+          'held', 'refills', 'writebacks']
+ARRAYS = {'regs': (17, 16), 'full': (33, 16), 'dirty': (49, 16), 'block': (65, 16), 'words': (81, 128)}
+WIDE = 1 << 32
+
+
+def line(kind, *words):
+    return ' '.join([kind] + [f'{w:08X}' for w in (list(words) + [0] * 4)[:4]])
+
+
+# ---- digests, as crates/trm_vectors/src/digest.rt has them
+
+def mixed(digest, half):
+    return (digest * 31 + half) % 4294967291
+
+
+def of_list(values):
+    digest = 0
+    for value in values:
+        digest = mixed(digest, value)
+    return f'{digest:08x}'
+
+
+def of_record(record):
+    values = [getattr(record, name) for name in FIELDS] + [x for name in ARRAYS for x in getattr(record, name)]
+    return of_list(half for value in values for half in (value % WIDE, value // WIDE))
+
+
+# ---- the bench, as crates/trm_vectors/src/script.rt and bench.rt have it
+
+class Script:
+    """Lines and answers so far, and the bench that they leave: a record, a program and a store, of which a part is lent."""
+
+    def __init__(self):
+        self.rows, self.figures = [], []
+        self.record, self.words, self.store, self.lent = m.Record(64), [0] * 4097, [0] * 65536, (0, 0)
+        self.edges = {}                       # how many calls have each number
+
+    def line(self, kind, *words, answer=''):
+        self.rows.append((line(kind, *words), answer))
+
+    def head(self, text):
+        assert len(text) <= 35, text
+        self.rows.append((f'# {text:<35}', ''))
+
+    def hold(self, what, found, given):
+        """A figure of the paper, if there is one, against what was worked out."""
+        if given is not None:
+            self.figures.append((f'{what}: {found}, given {given}', found == given))
+
+    def number(self, what, number, by_rows):
+        """A refusal number, written here from the table, against tests/machine/refused.py."""
+        self.edges[number] = self.edges.get(number, 0) + 1
+        self.hold(f'line {len(self.rows) + 1}, {what}', by_rows, number)
+
+    def calls(self):
+        return sum(self.edges.values())
+
+    def refused(self):
+        return self.calls() - self.edges[0]
+
+    # -- what is lent, and the record
+
+    def lend(self, program, store):
+        self.lent = program, store
+        self.line('L', program, store)
+
+    def fill(self, which, at, count, word):
+        (self.store if which else self.words)[at:at + count] = [word] * count
+        self.line('J', which, at, count, word)
+
+    def program(self, *words, length):
+        """These words, lent with so many words of the store."""
+        for at, word in enumerate(words):
+            self.fill(0, at, 1, word)
+        self.lend(len(words), length)
+
+    def set(self, **fields):
+        """Fields of the record; those of an array as {index: value}."""
+        for name, value in fields.items():
+            if name in ARRAYS:
+                for at, element in value.items():
+                    getattr(self.record, name)[at] = element
+                    self.line('F', ARRAYS[name][0] + at, 0, element)
+            else:
+                setattr(self.record, name, value)
+                self.line('F', FIELDS.index(name), value // WIDE, value % WIDE)
+
+    def show(self, name, at=0, given=None):
+        found = getattr(self.record, name)[at] if name in ARRAYS else getattr(self.record, name)
+        self.hold(f'{name} {at}', found, given)
+        self.line('V', ARRAYS[name][0] + at if name in ARRAYS else FIELDS.index(name), answer=f'{found:x}')
+
+    def show_word(self, at, given=None):
+        self.hold(f'store {at}', self.store[at], given)
+        self.line('H', at, answer=f'{self.store[at]:08x}')
+
+    def lists(self):
+        return self.words[:self.lent[0]], self.store[:self.lent[1]]
+
+    def all(self):
+        return f'{of_record(self.record)} {of_list(self.store[:self.lent[1]])}'
+
+    # -- the calls; number is what the paper gives, 0 for an accepted call
+
+    def reset(self, number):
+        store = self.lists()[1]
+        self.number('reset', number, refused.reset(store))
+        if number == 0:
+            self.record = m.reset(store)
+        self.line('R', answer=f'{number} {self.all()}')
+
+    def clock(self, number, line=0, inp=0, finished=None):
+        program, store = self.lists()
+        self.number('clock', number, refused.clock(program, self.record, store, line))
+        byte, word, done = m.clock(program, self.record, store, line, inp) if number == 0 else (0, 0, 0)
+        self.store[:len(store)] = store
+        self.hold('finished', done, finished)
+        self.line('K', line, inp, answer=f'{number} {byte:02x} {word:08x} {done} {self.all()}')
+
+    def run(self, number, clocks, more=(0, 0, 0), device=0, line=0, odd=None, at=0, inp=0, finished=None):
+        """A run of so many clocks, with more input words, answer bytes and answer words than that; at one clock the line byte is
+        odd. It shows the answer of that clock, and the watch for a device, which is written in at most one clock."""
+        odd, (program, store) = line if odd is None else odd, self.lists()
+        inputs, count_bytes, count_words = (clocks + n for n in more)
+        lines = [line] * clocks
+        if at < clocks:
+            lines[at] = odd
+        answer_bytes, answer_words = [0xA5] * 65537, [0xA5A5A5A5] * 65537
+        lent_bytes, lent_words = answer_bytes[:count_bytes], answer_words[:count_words]
+        self.number('run', number, refused.run(program, self.record, store, lines, [inp] * inputs, lent_bytes, lent_words))
+        used = done = 0
+        for used, byte in enumerate(lines if number == 0 else [], 1):
+            answer_bytes[used - 1], answer_words[used - 1], last = m.clock(program, self.record, store, byte, inp)
+            done += last
+        self.store[:len(store)] = store
+        self.hold('instructions finished', done, finished)
+        lent_bytes, lent_words = answer_bytes[:count_bytes], answer_words[:count_words]
+        packed = sum((n + 1) << 4 * i for i, n in enumerate(more)) | device << 12
+        shown = f'{number} {used} {done} {self.all()} {of_list(lent_bytes)} {of_list(lent_words)} {sighting(lent_bytes, device)}'
+        self.line('Z', clocks, packed, at << 16 | odd << 8 | line, inp, answer=f'{shown} {answer_bytes[at]:02x} {answer_words[at]:08x}')
+
+    def look(self, number, address, given=None):
+        program, store = self.lists()
+        self.number('look', number, refused.look(program, self.record, store, address))
+        found = m.view(self.record, store, address) if number == 0 else 0
+        self.hold(f'look {address}', found, given)
+        self.line('O', address, answer=f'{number} {found:08x}')
+
+    def copy(self, number, length, at=0):
+        program, store = self.lists()
+        buffer = [0xA5A5A5A5] * 65537
+        self.number('copy', number, refused.copy(program, self.record, store, buffer[:length]))
+        if number == 0:
+            buffer[:length] = m.copy(self.record, store)
+        self.line('Y', length, at, answer=f'{number} {of_list(buffer[:length])} {buffer[at]:08x}')
+
+    def watch(self, number, length, device, byte=0, odd=None, at=0):
+        self.number('watch', number, refused.watch(device))
+        answers = [byte] * 65537
+        answers[at] = byte if odd is None else odd
+        self.line('U', length, device, at << 16 | answers[at] << 8 | byte, answer=sighting(answers[:length], device))
+
+
+def sighting(answers, device):
+    """The watch's number and clock; a device that is written in several clocks is no case, the choice among them being free."""
+    if device > 63:
+        return '9 none'
+    found = [at for at, byte in enumerate(answers) if byte & 2 and byte >> 2 == device]
+    assert len(found) < 2
+    return f'0 {found[0]}' if found else '0 none'
