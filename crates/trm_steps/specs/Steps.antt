@@ -1,7 +1,7 @@
 -- What one step of the multiplier or the divider asks of the record, and the registers that it leaves.
 -- Paper: "Phase 1 needs operation 8 or 9"; "1 arithmetic, 1–32"; "for the operation not running, these registers are zero".
 -- Assumes nothing.
---   Steps w r v, Serves w r a b   the word w goes on, r in flight        multiplied, dividedBy   what is in flight after a step of one of them
+--   Steps w r v, Serves w r a b   the word w goes on, r in flight        multiplied, dividedBy   what is in flight after a step
 use Prim.Native.Nat.{ℕ, _<_}
 use mathlib.Core.Path.{_≡_}
 use mathlib.Core.Logic.{_≢_}

@@ -3,7 +3,8 @@
 -- Assumes nothing.
 --   Point, point   where a run stands        Reached p ls is x₀ q bs ws   it began at x₀ and stands at q, the buffers being bs and ws
 --   At, Turned     what a turn asks and gives        Under, Stands, Quietly   the same of a turn that answers nothing
---   Begins   the next clock begins a word        Room   what one clock with its answer asks        withSerial   the scalars after some steps
+--   Begins   the next clock begins a word        Room   what one clock with its answer asks
+--   withSerial   the scalars after some steps
 use Prim.Native.Nat.{ℕ, _+_, _≤_, _<_}
 use mathlib.Core.Path.{_≡_}
 use mathlib.Core.Bool.{true, false}

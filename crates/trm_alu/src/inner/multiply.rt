@@ -12,13 +12,24 @@ fn upper_half(b: u32) -> u64
     std::num::wrapping_sub_u64(super::sums::biased(b) * 0x8000_0000, 0x4000_0000_0000_0000)
 }
 
+// The product of a bit and a word, chosen and not multiplied: where the bits of A come at random, a branch would be guessed wrong.
+fn bit_times(bit: u64, x: u64) -> u64
+    requires { ⌜ bit < 2 ⌝ }
+    ensures { λ r. ⌜ r ≡ bit * x ⌝ }
+{
+    if bit == 1 {
+        return x;
+    }
+    0
+}
+
 // One step: the register goes right by one place, its sign staying; where the bit that leaves is set,
 // B is added to the upper half, and taken off it in the last step.
 pub fn step(acc: u64, b: u32, last: bool) -> u64
     ensures { λ r. ⌜ r ≡ mulStep acc b last ⌝ }
 {
     let half = acc / 2 + acc / 0x8000_0000_0000_0000 * 0x8000_0000_0000_0000;
-    let addend = acc % 2 * upper_half(b);
+    let addend = bit_times(acc % 2, upper_half(b));
     if last {
         return std::num::wrapping_sub_u64(half, addend);
     }

@@ -9,7 +9,7 @@ pub fn clear_bytes(list: &mut [u8])
 {
     let mut i: usize = 0;
     while i < list.len() {
-        list[i] = 0;
+        list[i] = 0; // a byte
         i += 1;
     }
 }

@@ -40,11 +40,13 @@ writing-adds clears l k c ca s = chosen (Adds c) (eqb (k + 1) (burst paperGeomet
 
 filling-adds : (b l k : ℕ) (c : Scalars) (ca : Cache) (s : List ℕ) → Adds c (filling paperGeometry b l k c ca s)
 unfolding filling
-filling-adds b l k c ca s = chosen (Adds c) (eqb (k + 1) (burst paperGeometry)) (record { adds = refl; size = refl }) (record { adds = refl; size = refl })
+filling-adds b l k c ca s = chosen (Adds c) (eqb (k + 1) (burst paperGeometry))
+    (record { adds = refl; size = refl }) (record { adds = refl; size = refl })
 
 missing-adds : (l : ℕ) (c : Scalars) (ca : Cache) (s : List ℕ) → Adds c (missing paperGeometry l c ca s)
 unfolding missing
-missing-adds l c ca s = chosen (Adds c) (lineAt paperGeometry ca l .dirty) (record { adds = refl; size = refl }) (record { adds = refl; size = refl })
+missing-adds l c ca s = chosen (Adds c) (lineAt paperGeometry ca l .dirty)
+    (record { adds = refl; size = refl }) (record { adds = refl; size = refl })
 
 first-adds : (w n : ℕ) (c : Scalars) (v : Visible) (ca : Cache) (s : List ℕ) → Adds c (firstClock paperGeometry w n c v ca s)
 unfolding firstClock

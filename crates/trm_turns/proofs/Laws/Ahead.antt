@@ -3,7 +3,7 @@
 -- Assumes nothing.
 --   On   a run that stood at g stands at h, in phase k        on-none, held-on, moved-on   no clock, a held one, one that goes on
 --   fill-on, write-on, wait-on, step-on   one clock of a loop
-use Prim.Native.Nat.{ℕ, _+_, _*_, _/_, _%_, _≤_, _<_, _^_}
+use Prim.Native.Nat.{ℕ, _+_, _/_, _%_, _≤_, _<_, _^_}
 use mathlib.Core.Path.{_≡_, refl, sym, ap, _∙_, subst}
 use mathlib.Core.Logic.{_≢_}
 use mathlib.Core.Bool.{Bool, true, false, cond, not, _&&_}
@@ -25,7 +25,7 @@ use Rattle.trm_reference.specs.Interrupt.{stalled}
 use Rattle.trm_cache.specs.Cache.{Cache, lineAt, writeWord, fillWord}
 use Rattle.trm_core.specs.declared.record.Running.{Running}
 use Rattle.trm_core.specs.declared.record.Scalars.{Scalars}
-use Rattle.trm_core.specs.Record.{Lent, gathered, stepping, inPhase, advanced, waited}
+use Rattle.trm_core.specs.Record.{gathered, stepping, inPhase, advanced, waited}
 use Rattle.trm_core.specs.Clock.{Moved, moved, writing, filling, writeLine}
 use Rattle.trm_steps.specs.Steps.{Serves}
 use Rattle.trm_plan.specs.Plan.{Good, Does, Writes, Fills}
@@ -34,7 +34,7 @@ use Rattle.trm_plan.proofs.Laws.Kinds.{block-at}
 use Rattle.trm_plan.proofs.Laws.Flight.{write-at, fill-at, wait-more, step-more, serial-count}
 use Rattle.trm_turns.specs.declared.inner.going.Going.{Going}
 use Rattle.trm_turns.specs.declared.inner.serial.Serial.{Serial}
-use Rattle.trm_turns.specs.Reached.{Point, point, Reached, Under, Quietly, withSerial}
+use Rattle.trm_turns.specs.Reached.{point, Reached, Under, Quietly, withSerial}
 use Rattle.trm_turns.proofs.Laws.Reached.{step-quiet}
 use Rattle.trm_turns.proofs.Laws.Here.{held-here, moved-here, good-here}
 
@@ -70,7 +70,8 @@ module _ (ls : List ℕ) (w k : ℕ) (g h : Going) (rs : List ℕ) (ca ca′ : C
       (inv .quietly (u .program) (u .inputs) (u .bytes) (u .words) (u .from) (u .word) (u .so)) w (word-on (u .program) (u .word))
 
   -- what a run that stands here says of its counts
-  pub reached-on : (u : Under ls w (point g rs ca s)) → Reached (u .program) ls (u .inputs) (u .from) (point h rs ca′ s′) (u .bytes) (u .words)
+  pub reached-on : (u : Under ls w (point g rs ca s))
+      → Reached (u .program) ls (u .inputs) (u .from) (point h rs ca′ s′) (u .bytes) (u .words)
   reached-on u = inv .quietly (u .program) (u .inputs) (u .bytes) (u .words) (u .from) (u .word) (u .so)
 
   pub long-on : Under ls w (point g rs ca s) → length s′ ≡ length s
@@ -94,8 +95,8 @@ module _ (ls : List ℕ) (w k : ℕ) (g h : Going) (rs : List ℕ) (ca ca′ : C
         → On ls w k g (onward h (advanced (h .scalars) next 0 0)) rs ca ca″ s s″
     moved-on t some f d next ph ca″ s″ m = record {
       quietly = λ p is bs ws x₀ at r. let q = inv .quietly p is bs ws x₀ at r in
-          subst (λ j. Reached p ls is x₀ (point (record { scalars = advanced (h .scalars) next 0 0; at = h .at + 1; finished = j }) rs ca″ s″)
-          bs ws) (plain (h .finished))
+          subst (λ j. Reached p ls is x₀
+          (point (record { scalars = advanced (h .scalars) next 0 0; at = h .at + 1; finished = j }) rs ca″ s″) bs ws) (plain (h .finished))
           (step-quiet p ls is x₀ (point h rs ca′ s′) bs ws q more _ 0
           (moved-here p (h .scalars) rs ca′ s′ (record { line = line; input = getD is (h .at) 0 }) w (word-on p at) t
           (λ z. some (sym (inv .phase) ∙ z)) f d next 0 0 ca″ s″ m));
@@ -239,7 +240,8 @@ pub serial-more : (c : Scalars) (sr sr′ : Serial) (k : ℕ) (t : Bool) (next :
     → withSerial c sr′ (k + 1) ≡ cond t (waited (withSerial c sr k)) (advanced (withSerial c sr k) next 0 0)
 serial-more c sr sr′ k t next e = rw e (go t)
   where
-    go : (u : Bool) → withSerial c (cond u (record { running = sr .running; held = sr .held + 1 }) (record { running = next; held = sr .held }))
+    go : (u : Bool)
+        → withSerial c (cond u (record { running = sr .running; held = sr .held + 1 }) (record { running = next; held = sr .held }))
         (k + 1) ≡ cond u (waited (withSerial c sr k)) (advanced (withSerial c sr k) next 0 0)
     go true = rw (one-more (c .counts .clocks) k, one-more (c .counts .held) (sr .held))
     go false = rw (one-more (c .counts .clocks) k, plain (c .counts .refills), plain (c .counts .writebacks))

@@ -2,12 +2,12 @@
 -- Idea: the laws of the run's point, with the point that the code made in place of the clock's own.
 -- Assumes nothing.
 --   answered, quiet-answered, onward-answered   the next point        room   what `went` asks        due-true, due-false   what `due` tells
---   under-at, good-under, good-at-turn, long-turned   what a run that stands somewhere tells        idled, turned-from, at-from   of its loop
+--   under-at, good-under, good-at-turn, long-turned   what a run that stands somewhere tells
+--   idled, turned-from, at-from   of the loop over words
 --   unraised, past-raised, raised-none   what `raised` tells
 --   last-here   the clock of phase 5        entered, ended   a word's first of two clocks, and its second
 use Prim.Native.Nat.{ℕ, _+_, _≤_, _<_}
 use mathlib.Core.Path.{_≡_, refl, sym, ap, _∙_, subst}
-use mathlib.Core.Logic.{_≢_}
 use mathlib.Core.Bool.{Bool, true, false, cond, not, _&&_, _||_, and-false}
 use mathlib.Core.List.{List}
 use lib.ListN.{length, getD, set}
@@ -27,7 +27,7 @@ use Rattle.trm_cache.specs.Cache.{Cache}
 use Rattle.trm_core.specs.declared.record.Running.{Running}
 use Rattle.trm_core.specs.declared.record.Scalars.{Scalars}
 use Rattle.trm_core.specs.Record.{Lent, gathered, whole, inPhase, advanced}
-use Rattle.trm_core.specs.Clock.{Moved, moved, finish, clockOf}
+use Rattle.trm_core.specs.Clock.{moved, finish, clockOf}
 use Rattle.trm_plan.specs.Plan.{Good, Does}
 use Rattle.trm_plan.proofs.Laws.Facts.{facts}
 use Rattle.trm_plan.proofs.Laws.Plans.{idle-running}
@@ -108,8 +108,8 @@ module _ (ls : List ℕ) (w : ℕ) (g : Going) (rs : List ℕ) (ca : Cache) (s :
     (d : Does w (length s) (g .scalars) rs ca (λ y. moved (g .scalars) (inPhase 5 0) ca y 0 0)) where
   pub entered : Quietly ls w (point g rs ca s) (point h rs ca s)
   entered p is bs ws x₀ at r = onward-answered p ls is x₀ g rs ca s bs ws r (b .more) _ rs ca s
-      (begun-here p (g .scalars) rs ca s (record { line = getD ls (g .at) 0; input = getD is (g .at) 0 }) w at (b .unheld) (b .idle) (b .none)
-      _ d (inPhase 5 0) 0 0 ca s refl) h is-next
+      (begun-here p (g .scalars) rs ca s (record { line = getD ls (g .at) 0; input = getD is (g .at) 0 }) w at (b .unheld)
+      (b .idle) (b .none) _ d (inPhase 5 0) 0 0 ca s refl) h is-next
 
   pub seen : gathered (h .scalars) rs ≡ gathered (g .scalars) rs
   seen = ap (λ (k : Going). gathered (k .scalars) rs) is-next
@@ -187,7 +187,8 @@ pub idled-same : (w n : ℕ) (g : Going) (rs : List ℕ) (ca : Cache) (r : Runni
 idled-same w n g rs ca r e good z =
     ap (idled g) (e ∙ sym (idle-running w n (g .scalars) rs ca (facts w n (g .scalars) rs ca good) z))
 
-module _ (p ls is : List ℕ) (g g′ : Going) (rs : List ℕ) (ca : Cache) (s bs ws : List ℕ) (same : g′ ≡ g) (q : Point) (bs′ ws′ : List ℕ) where
+module _ (p ls is : List ℕ) (g g′ : Going) (rs : List ℕ) (ca : Cache) (s bs ws : List ℕ) (same : g′ ≡ g) (q : Point)
+    (bs′ ws′ : List ℕ) where
   pub turned-from : Turned p ls is (point g′ rs ca s) bs ws q bs′ ws′ → Turned p ls is (point g rs ca s) bs ws q bs′ ws′
   turned-from t x₀ r = t x₀ (subst (λ y. Reached p ls is x₀ (point y rs ca s) bs ws) (sym same) r)
 

@@ -45,7 +45,8 @@ pub fn quietly(g: Going, c: Scalars, done: u64) -> Going
 pub fn went(g: Going, r: Clocked, bytes: &mut [u8], outs: &mut [u32]) -> Going
     requires { ⌜ Room g r (now bytes) (now outs) ⌝ }
     ensures { λ h. ⌜ (h ≡ record { scalars = r .scalars; at = g .at + 1; finished = g .finished + r .done })
-        × (now (bytes .exit) ≡ set (now (bytes .entry)) (g .at) (r .byte)) × (now (outs .exit) ≡ set (now (outs .entry)) (g .at) (r .word)) ⌝ }
+        × (now (bytes .exit) ≡ set (now (bytes .entry)) (g .at) (r .byte))
+        × (now (outs .exit) ≡ set (now (outs .entry)) (g .at) (r .word)) ⌝ }
 {
     let at = g.at;
     let h = quietly(g, r.scalars, r.done);

@@ -100,7 +100,7 @@ fn load(
     let place = reading::place_of_word(c, regs, w, store.len() as u64);
     match place {
         Place::Device(d) => {
-            let h = enters(g, 5, 0);
+            let h = enters(g, 5, 0); // the device is read in the second clock
             let at = h.at;
             if !going::due(lines, at) {
                 return h;

@@ -22,10 +22,8 @@ add-half c = search needs
 upper-half-requires : tie.Need-upper-half-requires
 upper-half-requires c κs = search needs
 
-mul-addend : tie.Need-mul-addend
-mul-addend c =
-    let u : c .upper-half .result < 2 ^ 64 = omega arith in
-    omega (arith, addend-lt (c .before .args .acc) (c .upper-half .result) u)
+bit-times-requires : tie.Need-bit-times-requires
+bit-times-requires c κs = search needs
 
 wrapping-sub-u64-requires : tie.Need-wrapping-sub-u64-requires
 wrapping-sub-u64-requires c κs = search needs
@@ -33,12 +31,13 @@ wrapping-sub-u64-requires c κs = search needs
 returns : tie.Need-returns
 unfolding mulStep shiftedRight
 returns c =
-    let call = c .before .before in
+    let call = c .before .before .before in
     let acc = call .before .args .acc in
     let u = call .upper-half .result in
     let l : u < 2 ^ 64 = omega arith in
     rw (c .before .if1 .taken, ← call .upper-half .ensures)
-    (sub-wrapped (2 ^ 64) (acc % 2 * u) _ _ (le-of-lt (addend-lt acc u l)) (omega arith) (c .wrapping-sub-u64 .ensures))
+    (sub-wrapped (2 ^ 64) (acc % 2 * u) _ _ (le-of-lt (addend-lt acc u l)) (omega arith)
+    (rw (← c .before .before .bit-times .ensures) (c .wrapping-sub-u64 .ensures)))
 
 wrapping-add-u64-requires : tie.Need-wrapping-add-u64-requires
 wrapping-add-u64-requires c κs = search needs
@@ -46,7 +45,8 @@ wrapping-add-u64-requires c κs = search needs
 returns-2 : tie.Need-returns-2
 unfolding mulStep shiftedRight
 returns-2 c =
-    rw (c .before .if1 .left, ← c .before .before .upper-half .ensures) (c .wrapping-add-u64 .ensures)
+    rw (c .before .if1 .left, ← c .before .before .before .upper-half .ensures, ← c .before .before .bit-times .ensures)
+    (c .wrapping-add-u64 .ensures)
 
 pub step-spec : {M : Type 1} → statement M
 step-spec =
@@ -55,7 +55,7 @@ step-spec =
     mul-half
     add-half
     upper-half-requires
-    mul-addend
+    bit-times-requires
     wrapping-sub-u64-requires
     returns
     wrapping-add-u64-requires

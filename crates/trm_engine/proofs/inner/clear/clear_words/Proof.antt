@@ -6,8 +6,6 @@ use Rattle.trm_engine.proofs.Laws.Clear.{Cleared, clear-none, clear-mor
 use borrow.Author.Needs.{needs}
 use Rattle.trm_engine.proofs.inner.clear.clear_words.Statement.{statement}
 use Rattle.trm_engine.proofs.inner.clear.clear_words.Tie as tie
-use Rattle.trm_engine.proofs.inner.clear.clear_words.Reads as reads
-use Rattle.trm_engine.proofs.inner.clear.clear_words.Lts as lts
 
 abbrev Inv-loop : tie.InvT-loop
 Inv-loop list₀ i₀ list i = Cleared list₀ list i

@@ -14,7 +14,8 @@ divider-step-requires c κs = rw (c .before .before .before .operand-a .ensures,
     (c .before .before .before .before .before .before .before .pre)
 
 returns : tie.Need-returns
-returns c = rw (c .divider-step .ensures, c .before .before .before .before .operand-a .ensures, c .before .before .operand-b .ensures)
+returns c =
+    rw (c .divider-step .ensures, c .before .before .before .before .operand-a .ensures, c .before .before .operand-b .ensures)
 
 pub divider-step-spec : {M : Type 1} → statement M
 divider-step-spec =

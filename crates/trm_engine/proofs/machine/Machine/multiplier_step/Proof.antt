@@ -14,7 +14,8 @@ multiplier-step-requires c κs = rw (c .before .before .before .operand-a .ensur
     (c .before .before .before .before .before .before .before .pre)
 
 returns : tie.Need-returns
-returns c = rw (c .multiplier-step .ensures, c .before .before .before .before .operand-a .ensures, c .before .before .operand-b .ensures)
+returns c =
+    rw (c .multiplier-step .ensures, c .before .before .before .before .operand-a .ensures, c .before .before .operand-b .ensures)
 
 pub multiplier-step-spec : {M : Type 1} → statement M
 multiplier-step-spec =

@@ -1,7 +1,6 @@
 -- The proof of trm_steps::inner::steps::later_step.
 use Rattle.trm_steps.proofs.Laws.Steps.{multiplies, divides, multiplied-is, divided-is}
 use native.Mathlib.Omega.{arith}
-use borrow.Author.Needs.{needs}
 use Rattle.trm_steps.proofs.inner.steps.later_step.Statement.{statement}
 use Rattle.trm_steps.proofs.inner.steps.later_step.Tie as tie
 
@@ -21,7 +20,8 @@ divider-next-requires c κs = let k = c .before .pre in (
 )
 
 returns-2 : tie.Need-returns-2
-returns-2 c = λ v p q. rw (c .divider-next .ensures, p, q) (divided-is _ v _ (c .before .before .pre .steps .stepped) (c .before .if1 .left))
+returns-2 c = λ v p q. rw (c .divider-next .ensures, p, q)
+    (divided-is _ v _ (c .before .before .pre .steps .stepped) (c .before .if1 .left))
 
 pub later-step-spec : {M : Type 1} → statement M
 later-step-spec = tie.close (tie.spec multiplier-next-requires returns divider-next-requires returns-2)

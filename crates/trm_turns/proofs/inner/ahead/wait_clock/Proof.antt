@@ -3,12 +3,6 @@ use native.Mathlib.Omega.{arith}
 use borrow.Author.Needs.{needs}
 use Rattle.trm_turns.proofs.inner.ahead.wait_clock.Statement.{statement}
 use Rattle.trm_turns.proofs.inner.ahead.wait_clock.Tie as tie
-use Rattle.trm_turns.proofs.inner.ahead.wait_clock.Reads as reads
-use Rattle.trm_turns.proofs.inner.ahead.wait_clock.Lts as lts
-use Rattle.trm_steps.proofs.inner.interrupt.is_stalled.Reads as is-stalled-reads
-use Rattle.trm_steps.proofs.inner.scalars.advance.Reads as advance-reads
-use Rattle.trm_steps.proofs.inner.scalars.hold.Reads as hold-reads
-use Rattle.trm_steps.proofs.inner.scalars.in_phase.Reads as in-phase-reads
 
 is-stalled-requires : tie.Need-is-stalled-requires
 is-stalled-requires c κs = search needs
@@ -29,7 +23,13 @@ advance-requires : tie.Need-advance-requires
 advance-requires c κs = (c .before .before .before .before .pre .0, omega arith, omega arith)
 
 returns-2 : tie.Need-returns-2
-returns-2 c = rw (← c .before .before .before .before .is-stalled .ensures, c .before .before .before .if1 .left, ← c .before .in-phase .ensures) (c .advance .ensures)
+returns-2 c =
+    rw (
+      ← c .before .before .before .before .is-stalled .ensures,
+      c .before .before .before .if1 .left,
+      ← c .before .in-phase
+          .ensures,
+    ) (c .advance .ensures)
 
 pub wait-clock-spec : {M : Type 1} → statement M
 wait-clock-spec =

@@ -2,26 +2,20 @@
 use Rattle.trm_turns.proofs.Laws.Ahead.{long-on}
 use Rattle.trm_turns.proofs.Laws.Ahead.{On, on-none, good-on, clears-on, line-on, writes, write-on}
 use native.Mathlib.Omega.{arith}
-use native.Mathlib.Nat.{mod-lt}
-use Prim.Native.Nat.{ℕ, _+_, _-_, _≤_}
-use mathlib.Core.Path.{refl, sym, ap, _∙_}
-use lib.ListN.{length, getD}
+use Prim.Native.Nat.{_-_}
+use mathlib.Core.Path.{ap}
+use lib.ListN.{length}
 use Rattle.trm_cache.specs.Cache.{cache}
 use Rattle.trm_reference.specs.Visible.{Visible}
 use Rattle.trm_core.proofs.Laws.Rows.{legal-of}
-use Rattle.trm_core.proofs.Laws.Fit.{legal-small}
 use borrow.Author.Needs.{needs}
 use Rattle.trm_turns.proofs.inner.ahead.write_ahead.Statement.{statement}
 use Rattle.trm_turns.proofs.inner.ahead.write_ahead.Tie as tie
-use Rattle.trm_turns.proofs.inner.ahead.write_ahead.Reads as reads
-use Rattle.trm_turns.proofs.inner.ahead.write_ahead.Lts as lts
-use Rattle.trm_clock.proofs.inner.flight.line_of_burst.Reads as line-of-burst-reads
-use Rattle.trm_reading.proofs.inner.reading.turns_cache_off.Reads as turns-cache-off-reads
-use Rattle.trm_turns.proofs.inner.ahead.write_clock.Reads as write-clock-reads
 
 abbrev Inv-loop : tie.InvT-loop
 Inv-loop g regs full dirty block words store₀ w lines c₀ clears l i₀ store c i =
-    On lines w 2 g (record { scalars = c; at = i; finished = g .finished }) regs (cache full dirty block words) (cache full dirty block words) store₀ store
+    On lines w 2 g (record { scalars = c; at = i; finished = g .finished }) regs (cache full dirty block words)
+    (cache full dirty block words) store₀ store
 
 abbrev μ-loop : tie.MeasureT-loop
 μ-loop g regs full dirty block words store₀ w lines c₀ clears l i₀ store c i = length lines - i
@@ -36,7 +30,9 @@ loop-holds : tie.Need-loop-holds Inv-loop μ-loop
 loop-holds c = on-none _ _ _ _ _ _ _ (c .before .before .before .before .before .pre .1)
 
 same-length : tie.Need-same-length Inv-loop μ-loop
-same-length c = long-on _ _ _ _ _ _ _ _ _ _ (c .before .before .before .loop .inv) (c .before .before .before .before .before .before .before .before .before .pre .0)
+same-length c =
+    long-on _ _ _ _ _ _ _ _ _ _ (c .before .before .before .loop .inv) (c .before .before .before .before .before .before .before
+    .before .before .pre .0)
 
 returns : tie.Need-returns Inv-loop μ-loop
 returns c = let n = c .before .before .before .loop .inv in (n .quietly, ap (λ (v : Visible). v .pc) (n .seen), n .phase, n .onto)
@@ -45,19 +41,41 @@ shared-slice-read-write-clock : tie.Need-shared-slice-read-write-clock Inv-loop 
 shared-slice-read-write-clock c = c .before .before .before .before .loop-test .taken
 
 write-clock-requires : tie.Need-write-clock-requires Inv-loop μ-loop
-write-clock-requires c κs = let n = c .before .before .before .before .before .loop .inv in let u = c .before .before .before .before .before .before .before .before .before .before .before .pre .0 in let f = writes _ _ _ _ _ _ _ _ _ u n _ _ (clears-on _ _ _ _ _ _ _ _ _ u n _ (c .before .before .before .before .before .before .before .turns-cache-off .ensures)) (line-on _ _ _ _ _ _ _ _ _ u n _ (c .before .before .before .before .before .before .line-of-burst .ensures .0)) in (good-on _ _ _ _ _ _ _ _ _ _ n u .counts, f .line, f .few, f .inside)
+write-clock-requires c κs =
+    let c10 = c .before .before .before .before .before .before .before .before .before .before in
+    let n = c .before .before .before .before .before .loop .inv in
+    let u = c10 .before .pre .0 in
+    let f = writes _ _ _ _ _ _ _ _ _ u n _ _ (clears-on _ _ _ _ _ _ _ _ _ u n _ (c .before .before .before .before .before .before
+    .before .turns-cache-off .ensures)) (line-on _ _ _ _ _ _ _ _ _ u n _ (c .before .before .before .before .before .before
+    .line-of-burst .ensures .0)) in
+    (good-on _ _ _ _ _ _ _ _ _ _ n u .counts, f .line, f .few, f .inside)
 
 add-i : tie.Need-add-i Inv-loop μ-loop
-add-i c = omega (arith, c .before .before .before .before .before .before .before .loop-test .taken, c .before .before .before .before .before .before .before .before .before .before .before .before .before .before .pre .0 .so .feed .many)
+add-i c =
+    let c10 = c .before .before .before .before .before .before .before .before .before .before in
+    omega (
+      arith,
+      c .before .before .before .before .before .before .before .loop-test .taken,
+      c10 .before .before .before .before
+          .pre .0 .so .feed .many,
+    )
 
 loop-less : tie.Need-loop-less Inv-loop μ-loop
 loop-less c = omega (arith, c .before .before .before .before .before .before .before .loop-test .taken)
 
 loop-again : tie.Need-loop-again Inv-loop μ-loop
-loop-again c = let n = c .before .before .before .before .before .before .before .before .loop .inv in let u = c .before .before .before .before .before .before .before .before .before .before .before .before .before .before .pre .0 in write-on _ _ _ _ _ _ _ _ _ u n (c .before .before .before .before .before .before .before .loop-test .taken) (c .before .before .before .before .before .if1 .left) _ _ (clears-on _ _ _ _ _ _ _ _ _ u n _ (c .before .before .before .before .before .before .before .before .before .before .turns-cache-off .ensures)) (line-on _ _ _ _ _ _ _ _ _ u n _ (c .before .before .before .before .before .before .before .before .before .line-of-burst .ensures .0)) _ _ (c .before .before .write-clock .ensures .0) (c .before .before .write-clock .ensures .1)
+loop-again c =
+    let c10 = c .before .before .before .before .before .before .before .before .before .before in
+    let n = c .before .before .before .before .before .before .before .before .loop .inv in
+    let u = c10 .before .before .before .before .pre .0 in
+    write-on _ _ _ _ _ _ _ _ _ u n (c .before .before .before .before .before .before .before .loop-test .taken) (c .before .before
+    .before .before .before .if1 .left) _ _ (clears-on _ _ _ _ _ _ _ _ _ u n _ (c10 .turns-cache-off .ensures)) (line-on _ _ _ _ _ _
+    _ _ _ u n _ (c .before .before .before .before .before .before .before .before .before .line-of-burst .ensures .0)) _ _ (c
+    .before .before .write-clock .ensures .0) (c .before .before .write-clock .ensures .1)
 
 same-length-2 : tie.Need-same-length-2 Inv-loop μ-loop
-same-length-2 c = long-on _ _ _ _ _ _ _ _ _ _ (c .before .loop .inv) (c .before .before .before .before .before .before .before .pre .0)
+same-length-2 c =
+    long-on _ _ _ _ _ _ _ _ _ _ (c .before .loop .inv) (c .before .before .before .before .before .before .before .pre .0)
 
 returns-2 : tie.Need-returns-2 Inv-loop μ-loop
 returns-2 c = let n = c .before .loop .inv in (n .quietly, ap (λ (v : Visible). v .pc) (n .seen), n .phase, n .onto)

@@ -3,13 +3,6 @@ use native.Mathlib.Omega.{arith}
 use borrow.Author.Needs.{needs}
 use Rattle.trm_turns.proofs.inner.ahead.write_clock.Statement.{statement}
 use Rattle.trm_turns.proofs.inner.ahead.write_clock.Tie as tie
-use Rattle.trm_turns.proofs.inner.ahead.write_clock.Reads as reads
-use Rattle.trm_turns.proofs.inner.ahead.write_clock.Lts as lts
-use Rattle.trm_cache.proofs.inner.bursts.write_word.Reads as write-word-reads
-use Rattle.trm_steps.proofs.inner.interrupt.is_stalled.Reads as is-stalled-reads
-use Rattle.trm_steps.proofs.inner.scalars.advance.Reads as advance-reads
-use Rattle.trm_steps.proofs.inner.scalars.hold.Reads as hold-reads
-use Rattle.trm_steps.proofs.inner.scalars.in_phase.Reads as in-phase-reads
 
 is-stalled-requires : tie.Need-is-stalled-requires
 is-stalled-requires c κs = search needs
@@ -18,7 +11,14 @@ hold-requires : tie.Need-hold-requires
 hold-requires c κs = c .before .before .before .pre .0
 
 returns : tie.Need-returns
-returns c = (rw (← c .before .before .is-stalled .ensures, c .before .if1 .taken) (c .hold .ensures), rw (← c .before .before .is-stalled .ensures, c .before .if1 .taken))
+returns c = (
+  rw (← c .before .before .is-stalled .ensures, c .before .if1 .taken) (c .hold .ensures),
+  rw (
+    ← c .before .before .is-stalled
+        .ensures,
+    c .before .if1 .taken,
+  ),
+)
 
 write-word-requires : tie.Need-write-word-requires
 write-word-requires c κs = let q = c .before .before .before .before .pre in (q .1, q .2, q .3)
@@ -36,7 +36,20 @@ same-length : tie.Need-same-length
 same-length c = search needs
 
 returns-2 : tie.Need-returns-2
-returns-2 c = (rw (← c .before .before .before .before .before .before .before .is-stalled .ensures, c .before .before .before .before .before .before .if1 .left, ← c .before .in-phase .ensures) (c .advance .ensures), rw (← c .before .before .before .before .before .before .before .is-stalled .ensures, c .before .before .before .before .before .before .if1 .left) (c .before .before .before .before .write-word .ensures))
+returns-2 c = (
+  rw (
+    ← c .before .before .before .before .before .before .before .is-stalled .ensures,
+    c .before .before .before .before .before
+        .before .if1 .left,
+    ← c .before .in-phase .ensures,
+  ) (c .advance .ensures),
+  rw (
+    ← c .before .before .before .before .before
+        .before .before .is-stalled .ensures,
+    c .before .before .before .before .before .before .if1 .left,
+  ) (c .before .before .before
+      .before .write-word .ensures),
+)
 
 pub write-clock-spec : {M : Type 1} → statement M
 write-clock-spec =

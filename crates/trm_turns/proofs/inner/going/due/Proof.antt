@@ -3,9 +3,6 @@ use borrow.Author.Tests.{lt-ltb, le-ltb}
 use borrow.Author.Needs.{needs}
 use Rattle.trm_turns.proofs.inner.going.due.Statement.{statement}
 use Rattle.trm_turns.proofs.inner.going.due.Tie as tie
-use Rattle.trm_turns.proofs.inner.going.due.Reads as reads
-use Rattle.trm_turns.proofs.inner.going.due.Lts as lts
-use Rattle.trm_steps.proofs.inner.interrupt.is_stalled.Reads as is-stalled-reads
 
 shared-slice-read-is-stalled : tie.Need-shared-slice-read-is-stalled
 shared-slice-read-is-stalled c = search needs

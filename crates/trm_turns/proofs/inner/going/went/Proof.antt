@@ -5,9 +5,6 @@ use Rattle.trm_turns.proofs.Laws.Reached.{zero-sets}
 use borrow.Author.Needs.{needs}
 use Rattle.trm_turns.proofs.inner.going.went.Statement.{statement}
 use Rattle.trm_turns.proofs.inner.going.went.Tie as tie
-use Rattle.trm_turns.proofs.inner.going.went.Reads as reads
-use Rattle.trm_turns.proofs.inner.going.went.Lts as lts
-use Rattle.trm_turns.proofs.inner.going.quietly.Reads as quietly-reads
 
 quietly-requires : tie.Need-quietly-requires
 quietly-requires c κs = let k = c .before .before .pre in (k .many, k .few, k .done)
@@ -31,7 +28,13 @@ returns : tie.Need-returns
 returns c = (c .before .before .quietly .ensures, refl, refl)
 
 returns-2 : tie.Need-returns-2
-returns-2 c = let k = c .before .before .before .before .before .pre in (c .before .before .quietly .ensures, zero-sets _ _ _ (c .if1 .left) (k .byte), zero-sets _ _ _ (k .mute (c .if1 .left)) (k .word))
+returns-2 c =
+    let k = c .before .before .before .before .before .pre in (
+      c .before .before .quietly .ensures,
+      zero-sets _ _ _ (c .if1 .left) (k .byte),
+      zero-sets _ _ _ (k .mute (c .if1 .left)) (k
+          .word),
+    )
 
 pub went-spec : {M : Type 1} → statement M
 went-spec =

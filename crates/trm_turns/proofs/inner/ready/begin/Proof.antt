@@ -1,79 +1,156 @@
 -- The proof of trm_turns::inner::ready::begin.
-use Rattle.trm_reference.specs.Interrupt.{stalled}
 use Prim.Native.Nat.{_/_, _^_}
 use Rattle.trm_plan.proofs.Laws.Kinds.{kind-call}
 use Rattle.trm_plan.proofs.Laws.Plans.{first-second}
 use native.Mathlib.Omega.{arith}
 use native.Mathlib.Nat.{mod-lt}
-use Prim.Native.Nat.{ℕ, _+_, _*_, _-_, _≤_, _<_}
-use mathlib.Core.Path.{_≡_, refl, sym, ap, _∙_}
-use lib.ListN.{length, getD}
-use borrow.Author.Tests.{not-true, not-false}
-use Rattle.trm_cache.specs.Cache.{cache}
 use Rattle.trm_plan.proofs.Laws.Facts.{facts}
-use Rattle.trm_clock.proofs.Laws.Worked.{ends-worked}
-use Rattle.trm_clock.proofs.Laws.Words.{shows, other-made}
-use Rattle.trm_turns.proofs.Laws.Here.{ready-here, begun-here, flight-here, interrupt-here}
-use Rattle.trm_turns.proofs.Laws.Ahead.{past-free}
-use Rattle.trm_turns.proofs.Laws.Next.{answered, quiet-answered, onward-answered, room, few-done, due-true, last-here, entered, ended}
-use Rattle.trm_turns.proofs.Laws.Next.{seen, phase, word-next, good-next, under-at, good-under, good-at-turn, long-turned}
+use Rattle.trm_turns.proofs.Laws.Here.{ready-here}
+use Rattle.trm_turns.proofs.Laws.Next.{answered, room, few-done, entered}
+use Rattle.trm_turns.proofs.Laws.Next.{under-at, good-under}
 use borrow.Author.Needs.{needs}
 use Rattle.trm_turns.proofs.inner.ready.begin.Statement.{statement}
 use Rattle.trm_turns.proofs.inner.ready.begin.Tie as tie
-use Rattle.trm_turns.proofs.inner.ready.begin.Reads as reads
-use Rattle.trm_turns.proofs.inner.ready.begin.Lts as lts
-use Rattle.trm_clock.proofs.inner.ready.first_arithmetic.Reads as first-arithmetic-reads
-use Rattle.trm_clock.proofs.inner.ready.first_control.Reads as first-control-reads
-use Rattle.trm_clock.proofs.inner.ready.first_store.Reads as first-store-reads
-use Rattle.trm_turns.proofs.inner.going.went.Reads as went-reads
-use Rattle.trm_turns.proofs.inner.ready.branch.Reads as branch-reads
-use Rattle.trm_turns.proofs.inner.ready.enters.Reads as enters-reads
-use Rattle.trm_turns.proofs.inner.ready.load.Reads as load-reads
 
 mul-first-control : tie.Need-mul-first-control
-mul-first-control c = let a = c .before .before .before .before .before .before .before .before .before .before .before .before .before .pre .0 in let wd = c .before .before .before .before .before .before .before .before .before .before .before .before .before .pre .1 in let b = c .before .before .before .before .before .before .before .before .before .before .before .before .before .pre .2 in let o = c .before .before .before .before .before .before .before .before .before .before .before .before .before .pre .3 in let u = under-at _ _ _ _ _ _ _ a wd in let gd = good-under _ _ _ _ _ _ u in let f = facts _ _ _ _ _ gd in omega (arith, b .more, a .so .feed .many)
+mul-first-control c =
+    let c10 = c .before .before .before .before .before .before .before .before .before .before in
+    let a = c10 .before .before .before .pre .0 in
+    let b = c10 .before .before .before .pre .2 in
+    omega (arith, b .more, a .so .feed .many)
 
 shared-slice-read-first-control : tie.Need-shared-slice-read-first-control
-shared-slice-read-first-control c = let a = c .before .before .before .before .before .before .before .before .before .before .before .before .before .before .pre .0 in let wd = c .before .before .before .before .before .before .before .before .before .before .before .before .before .before .pre .1 in let b = c .before .before .before .before .before .before .before .before .before .before .before .before .before .before .pre .2 in let o = c .before .before .before .before .before .before .before .before .before .before .before .before .before .before .pre .3 in let u = under-at _ _ _ _ _ _ _ a wd in let gd = good-under _ _ _ _ _ _ u in let f = facts _ _ _ _ _ gd in omega (arith, b .more, a .so .feed .fed)
+shared-slice-read-first-control c =
+    let c10 = c .before .before .before .before .before .before .before .before .before .before in
+    let a = c10 .before .before .before .before .pre .0 in
+    let b = c10 .before .before .before .before .pre .2 in
+    omega (arith, b .more, a .so .feed .fed)
 
 first-control-requires : tie.Need-first-control-requires
-first-control-requires c κs = let a = c .before .before .before .before .before .before .before .before .before .before .before .before .before .before .pre .0 in let wd = c .before .before .before .before .before .before .before .before .before .before .before .before .before .before .pre .1 in let b = c .before .before .before .before .before .before .before .before .before .before .before .before .before .before .pre .2 in let o = c .before .before .before .before .before .before .before .before .before .before .before .before .before .before .pre .3 in let u = under-at _ _ _ _ _ _ _ a wd in let gd = good-under _ _ _ _ _ _ u in let f = facts _ _ _ _ _ gd in (gd, b .idle, c .before .before .before .before .before .before .before .match .keys1)
+first-control-requires c κs =
+    let c10 = c .before .before .before .before .before .before .before .before .before .before in
+    let a = c10 .before .before .before .before .pre .0 in
+    let wd = c10 .before .before .before .before .pre .1 in
+    let b = c10 .before .before .before .before .pre .2 in
+    let u = under-at _ _ _ _ _ _ _ a wd in
+    let gd = good-under _ _ _ _ _ _ u in
+    (gd, b .idle, c .before .before .before .before .before .before .before .match .keys1)
 
 went-requires : tie.Need-went-requires
-went-requires c κs = let a = c .before .before .before .before .before .before .before .before .before .before .before .before .before .before .before .before .before .before .before .pre .0 in let wd = c .before .before .before .before .before .before .before .before .before .before .before .before .before .before .before .before .before .before .before .pre .1 in let b = c .before .before .before .before .before .before .before .before .before .before .before .before .before .before .before .before .before .before .before .pre .2 in let o = c .before .before .before .before .before .before .before .before .before .before .before .before .before .before .before .before .before .before .before .pre .3 in let u = under-at _ _ _ _ _ _ _ a wd in let gd = good-under _ _ _ _ _ _ u in let f = facts _ _ _ _ _ gd in room _ _ _ _ _ _ _ _ _ _ (a .so) (b .more) _ _ _ _ (ready-here _ _ _ _ _ _ _ wd (b .unheld) (b .idle) (b .none) _ (c .before .before .before .before .first-control .ensures))
+went-requires c κs =
+    let c10 = c .before .before .before .before .before .before .before .before .before .before in
+    let a = c10 .before .before .before .before .before .before .before .before .before .pre .0 in
+    let wd = c10 .before .before .before .before .before .before .before .before .before .pre .1 in
+    let b = c10 .before .before .before .before .before .before .before .before .before .pre .2 in
+    room _ _ _ _ _ _ _ _ _ _ (a .so) (b .more) _ _ _ _ (ready-here _ _ _ _ _ _ _ wd (b .unheld) (b .idle) (b .none) _ (c .before
+    .before .before .before .first-control .ensures))
 
 load-requires : tie.Need-load-requires
-load-requires c κs = let a = c .before .before .before .before .before .before .before .before .before .before .before .before .before .before .before .pre .0 in let wd = c .before .before .before .before .before .before .before .before .before .before .before .before .before .before .before .pre .1 in let b = c .before .before .before .before .before .before .before .before .before .before .before .before .before .before .before .pre .2 in let o = c .before .before .before .before .before .before .before .before .before .before .before .before .before .before .before .pre .3 in let u = under-at _ _ _ _ _ _ _ a wd in let gd = good-under _ _ _ _ _ _ u in let f = facts _ _ _ _ _ gd in (a, wd, b, c .before .before .before .before .before .before .before .before .match .keys2)
+load-requires c κs =
+    let c10 = c .before .before .before .before .before .before .before .before .before .before in
+    let a = c10 .before .before .before .before .before .pre .0 in
+    let wd = c10 .before .before .before .before .before .pre .1 in
+    let b = c10 .before .before .before .before .before .pre .2 in
+    (a, wd, b, c .before .before .before .before .before .before .before .before .match .keys2)
 
 mul-first-store : tie.Need-mul-first-store
-mul-first-store c = let a = c .before .before .before .before .before .before .before .before .before .before .before .before .before .pre .0 in let wd = c .before .before .before .before .before .before .before .before .before .before .before .before .before .pre .1 in let b = c .before .before .before .before .before .before .before .before .before .before .before .before .before .pre .2 in let o = c .before .before .before .before .before .before .before .before .before .before .before .before .before .pre .3 in let u = under-at _ _ _ _ _ _ _ a wd in let gd = good-under _ _ _ _ _ _ u in let f = facts _ _ _ _ _ gd in omega (arith, b .more, a .so .feed .many)
+mul-first-store c =
+    let c10 = c .before .before .before .before .before .before .before .before .before .before in
+    let a = c10 .before .before .before .pre .0 in
+    let b = c10 .before .before .before .pre .2 in
+    omega (arith, b .more, a .so .feed .many)
 
 shared-slice-read-first-store : tie.Need-shared-slice-read-first-store
-shared-slice-read-first-store c = let a = c .before .before .before .before .before .before .before .before .before .before .before .before .before .before .pre .0 in let wd = c .before .before .before .before .before .before .before .before .before .before .before .before .before .before .pre .1 in let b = c .before .before .before .before .before .before .before .before .before .before .before .before .before .before .pre .2 in let o = c .before .before .before .before .before .before .before .before .before .before .before .before .before .before .pre .3 in let u = under-at _ _ _ _ _ _ _ a wd in let gd = good-under _ _ _ _ _ _ u in let f = facts _ _ _ _ _ gd in omega (arith, b .more, a .so .feed .fed)
+shared-slice-read-first-store c =
+    let c10 = c .before .before .before .before .before .before .before .before .before .before in
+    let a = c10 .before .before .before .before .pre .0 in
+    let b = c10 .before .before .before .before .pre .2 in
+    omega (arith, b .more, a .so .feed .fed)
 
 first-store-requires : tie.Need-first-store-requires
-first-store-requires c κs = let a = c .before .before .before .before .before .before .before .before .before .before .before .before .before .before .pre .0 in let wd = c .before .before .before .before .before .before .before .before .before .before .before .before .before .before .pre .1 in let b = c .before .before .before .before .before .before .before .before .before .before .before .before .before .before .pre .2 in let o = c .before .before .before .before .before .before .before .before .before .before .before .before .before .before .pre .3 in let u = under-at _ _ _ _ _ _ _ a wd in let gd = good-under _ _ _ _ _ _ u in let f = facts _ _ _ _ _ gd in (gd, b .idle, c .before .before .before .before .before .before .before .match .keys3)
+first-store-requires c κs =
+    let c10 = c .before .before .before .before .before .before .before .before .before .before in
+    let a = c10 .before .before .before .before .pre .0 in
+    let wd = c10 .before .before .before .before .pre .1 in
+    let b = c10 .before .before .before .before .pre .2 in
+    let u = under-at _ _ _ _ _ _ _ a wd in
+    let gd = good-under _ _ _ _ _ _ u in
+    (gd, b .idle, c .before .before .before .before .before .before .before .match .keys3)
 
 went-requires-2 : tie.Need-went-requires-2
-went-requires-2 c κs = let a = c .before .before .before .before .before .before .before .before .before .before .before .before .before .before .before .before .before .before .before .pre .0 in let wd = c .before .before .before .before .before .before .before .before .before .before .before .before .before .before .before .before .before .before .before .pre .1 in let b = c .before .before .before .before .before .before .before .before .before .before .before .before .before .before .before .before .before .before .before .pre .2 in let o = c .before .before .before .before .before .before .before .before .before .before .before .before .before .before .before .before .before .before .before .pre .3 in let u = under-at _ _ _ _ _ _ _ a wd in let gd = good-under _ _ _ _ _ _ u in let f = facts _ _ _ _ _ gd in room _ _ _ _ _ _ _ _ _ _ (a .so) (b .more) _ _ _ _ (ready-here _ _ _ _ _ _ _ wd (b .unheld) (b .idle) (b .none) _ (c .before .before .before .before .first-store .ensures))
+went-requires-2 c κs =
+    let c10 = c .before .before .before .before .before .before .before .before .before .before in
+    let a = c10 .before .before .before .before .before .before .before .before .before .pre .0 in
+    let wd = c10 .before .before .before .before .before .before .before .before .before .pre .1 in
+    let b = c10 .before .before .before .before .before .before .before .before .before .pre .2 in
+    room _ _ _ _ _ _ _ _ _ _ (a .so) (b .more) _ _ _ _ (ready-here _ _ _ _ _ _ _ wd (b .unheld) (b .idle) (b .none) _ (c .before
+    .before .before .before .first-store .ensures))
 
 branch-requires : tie.Need-branch-requires
-branch-requires c κs = let a = c .before .before .before .before .before .before .before .before .before .before .before .before .before .pre .0 in let wd = c .before .before .before .before .before .before .before .before .before .before .before .before .before .pre .1 in let b = c .before .before .before .before .before .before .before .before .before .before .before .before .before .pre .2 in let o = c .before .before .before .before .before .before .before .before .before .before .before .before .before .pre .3 in let u = under-at _ _ _ _ _ _ _ a wd in let gd = good-under _ _ _ _ _ _ u in let f = facts _ _ _ _ _ gd in (u, b, c .before .before .before .before .before .before .match .keys4)
+branch-requires c κs =
+    let c10 = c .before .before .before .before .before .before .before .before .before .before in
+    let a = c10 .before .before .before .pre .0 in
+    let wd = c10 .before .before .before .pre .1 in
+    let b = c10 .before .before .before .pre .2 in
+    let u = under-at _ _ _ _ _ _ _ a wd in
+    (u, b, c .before .before .before .before .before .before .match .keys4)
 
 enters-requires : tie.Need-enters-requires
-enters-requires c κs = let a = c .before .before .before .before .before .before .before .pre .0 in let wd = c .before .before .before .before .before .before .before .pre .1 in let b = c .before .before .before .before .before .before .before .pre .2 in let o = c .before .before .before .before .before .before .before .pre .3 in let u = under-at _ _ _ _ _ _ _ a wd in let gd = good-under _ _ _ _ _ _ u in let f = facts _ _ _ _ _ gd in (few-done _ _ _ _ _ _ _ _ _ _ (a .so) (b .more) .0, gd .counts)
+enters-requires c κs =
+    let a = c .before .before .before .before .before .before .before .pre .0 in
+    let wd = c .before .before .before .before .before .before .before .pre .1 in
+    let b = c .before .before .before .before .before .before .before .pre .2 in
+    let u = under-at _ _ _ _ _ _ _ a wd in
+    let gd = good-under _ _ _ _ _ _ u in
+    (few-done _ _ _ _ _ _ _ _ _ _ (a .so) (b .more) .0, gd .counts)
 
 mul-first-arithmetic : tie.Need-mul-first-arithmetic
-mul-first-arithmetic c = let a = c .before .before .before .before .before .before .before .before .before .before .before .before .before .pre .0 in let wd = c .before .before .before .before .before .before .before .before .before .before .before .before .before .pre .1 in let b = c .before .before .before .before .before .before .before .before .before .before .before .before .before .pre .2 in let o = c .before .before .before .before .before .before .before .before .before .before .before .before .before .pre .3 in let u = under-at _ _ _ _ _ _ _ a wd in let gd = good-under _ _ _ _ _ _ u in let f = facts _ _ _ _ _ gd in omega (arith, b .more, a .so .feed .many)
+mul-first-arithmetic c =
+    let c10 = c .before .before .before .before .before .before .before .before .before .before in
+    let a = c10 .before .before .before .pre .0 in
+    let b = c10 .before .before .before .pre .2 in
+    omega (arith, b .more, a .so .feed .many)
 
 shared-slice-read-first-arithmetic : tie.Need-shared-slice-read-first-arithmetic
-shared-slice-read-first-arithmetic c = let a = c .before .before .before .before .before .before .before .before .before .before .before .before .before .before .pre .0 in let wd = c .before .before .before .before .before .before .before .before .before .before .before .before .before .before .pre .1 in let b = c .before .before .before .before .before .before .before .before .before .before .before .before .before .before .pre .2 in let o = c .before .before .before .before .before .before .before .before .before .before .before .before .before .before .pre .3 in let u = under-at _ _ _ _ _ _ _ a wd in let gd = good-under _ _ _ _ _ _ u in let f = facts _ _ _ _ _ gd in omega (arith, b .more, a .so .feed .fed)
+shared-slice-read-first-arithmetic c =
+    let c10 = c .before .before .before .before .before .before .before .before .before .before in
+    let a = c10 .before .before .before .before .pre .0 in
+    let b = c10 .before .before .before .before .pre .2 in
+    omega (arith, b .more, a .so .feed .fed)
 
 first-arithmetic-requires : tie.Need-first-arithmetic-requires
-first-arithmetic-requires c κs = let a = c .before .before .before .before .before .before .before .before .before .before .before .before .before .before .pre .0 in let wd = c .before .before .before .before .before .before .before .before .before .before .before .before .before .before .pre .1 in let b = c .before .before .before .before .before .before .before .before .before .before .before .before .before .before .pre .2 in let o = c .before .before .before .before .before .before .before .before .before .before .before .before .before .before .pre .3 in let u = under-at _ _ _ _ _ _ _ a wd in let gd = good-under _ _ _ _ _ _ u in let f = facts _ _ _ _ _ gd in (gd, b .idle, o, (let m = c .before .before .before .before .before .before .before .match .rest in omega (arith, mod-lt ((c .before .before .before .before .before .before .before .before .before .before .before .before .before .before .args .w) / 2 ^ 14) {m = 2 ^ 4} (omega arith), m .0 .0 .0 .0 .1, m .0 .0 .0 .1, m .0 .0 .1, m .0 .1, m .1)))
+first-arithmetic-requires c κs =
+    let c10 = c .before .before .before .before .before .before .before .before .before .before in
+    let a = c10 .before .before .before .before .pre .0 in
+    let wd = c10 .before .before .before .before .pre .1 in
+    let b = c10 .before .before .before .before .pre .2 in
+    let o = c10 .before .before .before .before .pre .3 in
+    let u = under-at _ _ _ _ _ _ _ a wd in
+    let gd = good-under _ _ _ _ _ _ u in (
+      gd,
+      b .idle,
+      o,
+      (let m = c .before .before .before .before .before .before .before .match .rest in omega (
+        arith,
+        mod-lt ((c10
+            .before .before .before .before .args .w) / 2 ^ 14) {m = 2 ^ 4} (omega arith),
+        m .0 .0 .0 .0 .1,
+        m .0 .0 .0 .1,
+        m .0 .0 .1,
+        m .0
+            .1,
+        m .1,
+      )),
+    )
 
 went-requires-3 : tie.Need-went-requires-3
-went-requires-3 c κs = let a = c .before .before .before .before .before .before .before .before .before .before .before .before .before .before .before .before .before .before .before .pre .0 in let wd = c .before .before .before .before .before .before .before .before .before .before .before .before .before .before .before .before .before .before .before .pre .1 in let b = c .before .before .before .before .before .before .before .before .before .before .before .before .before .before .before .before .before .before .before .pre .2 in let o = c .before .before .before .before .before .before .before .before .before .before .before .before .before .before .before .before .before .before .before .pre .3 in let u = under-at _ _ _ _ _ _ _ a wd in let gd = good-under _ _ _ _ _ _ u in let f = facts _ _ _ _ _ gd in room _ _ _ _ _ _ _ _ _ _ (a .so) (b .more) _ _ _ _ (ready-here _ _ _ _ _ _ _ wd (b .unheld) (b .idle) (b .none) _ (c .before .before .before .before .first-arithmetic .ensures))
+went-requires-3 c κs =
+    let c10 = c .before .before .before .before .before .before .before .before .before .before in
+    let a = c10 .before .before .before .before .before .before .before .before .before .pre .0 in
+    let wd = c10 .before .before .before .before .before .before .before .before .before .pre .1 in
+    let b = c10 .before .before .before .before .before .before .before .before .before .pre .2 in
+    room _ _ _ _ _ _ _ _ _ _ (a .so) (b .more) _ _ _ _ (ready-here _ _ _ _ _ _ _ wd (b .unheld) (b .idle) (b .none) _ (c .before
+    .before .before .before .first-arithmetic .ensures))
 
 same-length : tie.Need-same-length
 same-length c = search needs
@@ -85,7 +162,17 @@ same-length-3 : tie.Need-same-length-3
 same-length-3 c = search needs
 
 returns : tie.Need-returns
-returns c = let a = c .before .before .before .before .before .before .before .before .before .before .before .before .before .before .before .before .before .before .before .before .before .before .before .before .pre .0 in let wd = c .before .before .before .before .before .before .before .before .before .before .before .before .before .before .before .before .before .before .before .before .before .before .before .before .pre .1 in let b = c .before .before .before .before .before .before .before .before .before .before .before .before .before .before .before .before .before .before .before .before .before .before .before .before .pre .2 in let o = c .before .before .before .before .before .before .before .before .before .before .before .before .before .before .before .before .before .before .before .before .before .before .before .before .pre .3 in let u = under-at _ _ _ _ _ _ _ a wd in let gd = good-under _ _ _ _ _ _ u in let f = facts _ _ _ _ _ gd in (λ x₀ k. answered _ _ _ x₀ _ _ _ _ _ _ k (b .more) _ _ _ _ (ready-here _ _ _ _ _ _ _ wd (b .unheld) (b .idle) (b .none) _ (c .before .before .before .before .before .before .before .before .before .first-control .ensures)) _ _ _ (c .before .before .before .before .went .ensures .0) (c .before .before .before .before .went .ensures .1) (c .before .before .before .before .went .ensures .2), rw (c .before .before .before .before .went .ensures .0) (omega arith))
+returns c =
+    let c10 = c .before .before .before .before .before .before .before .before .before .before in
+    let c20 = c10 .before .before .before .before .before .before .before .before .before .before in
+    let wd = c20 .before .before .before .before .pre .1 in
+    let b = c20 .before .before .before .before .pre .2 in (
+      λ x₀ k. answered _ _ _ x₀ _ _ _ _ _ _ k (b .more) _ _ _ _ (ready-here _ _ _ _ _ _ _ wd (b .unheld) (b .idle) (b .none) _ (c
+          .before .before .before .before .before .before .before .before .before .first-control .ensures)) _ _ _ (c .before .before
+          .before .before .went .ensures .0) (c .before .before .before .before .went .ensures .1) (c .before .before .before .before
+          .went .ensures .2),
+      rw (c .before .before .before .before .went .ensures .0) (omega arith),
+    )
 
 same-length-4 : tie.Need-same-length-4
 same-length-4 c = search needs
@@ -109,16 +196,40 @@ same-length-9 : tie.Need-same-length-9
 same-length-9 c = search needs
 
 returns-3 : tie.Need-returns-3
-returns-3 c = let a = c .before .before .before .before .before .before .before .before .before .before .before .before .before .before .before .before .before .before .before .before .before .before .before .before .pre .0 in let wd = c .before .before .before .before .before .before .before .before .before .before .before .before .before .before .before .before .before .before .before .before .before .before .before .before .pre .1 in let b = c .before .before .before .before .before .before .before .before .before .before .before .before .before .before .before .before .before .before .before .before .before .before .before .before .pre .2 in let o = c .before .before .before .before .before .before .before .before .before .before .before .before .before .before .before .before .before .before .before .before .before .before .before .before .pre .3 in let u = under-at _ _ _ _ _ _ _ a wd in let gd = good-under _ _ _ _ _ _ u in let f = facts _ _ _ _ _ gd in (λ x₀ k. answered _ _ _ x₀ _ _ _ _ _ _ k (b .more) _ _ _ _ (ready-here _ _ _ _ _ _ _ wd (b .unheld) (b .idle) (b .none) _ (c .before .before .before .before .before .before .before .before .before .first-store .ensures)) _ _ _ (c .before .before .before .before .went2 .ensures .0) (c .before .before .before .before .went2 .ensures .1) (c .before .before .before .before .went2 .ensures .2), rw (c .before .before .before .before .went2 .ensures .0) (omega arith))
+returns-3 c =
+    let c10 = c .before .before .before .before .before .before .before .before .before .before in
+    let c20 = c10 .before .before .before .before .before .before .before .before .before .before in
+    let wd = c20 .before .before .before .before .pre .1 in
+    let b = c20 .before .before .before .before .pre .2 in (
+      λ x₀ k. answered _ _ _ x₀ _ _ _ _ _ _ k (b .more) _ _ _ _ (ready-here _ _ _ _ _ _ _ wd (b .unheld) (b .idle) (b .none) _ (c
+          .before .before .before .before .before .before .before .before .before .first-store .ensures)) _ _ _ (c .before .before .before
+          .before .went2 .ensures .0) (c .before .before .before .before .went2 .ensures .1) (c .before .before .before .before .went2
+          .ensures .2),
+      rw (c .before .before .before .before .went2 .ensures .0) (omega arith),
+    )
 
 same-length-10 : tie.Need-same-length-10
 same-length-10 c = search needs
 
 returns-4 : tie.Need-returns-4
-returns-4 c = let a = c .before .before .before .before .before .before .before .before .before .before .before .before .before .before .pre .0 in let wd = c .before .before .before .before .before .before .before .before .before .before .before .before .before .before .pre .1 in let b = c .before .before .before .before .before .before .before .before .before .before .before .before .before .before .pre .2 in let o = c .before .before .before .before .before .before .before .before .before .before .before .before .before .before .pre .3 in let u = under-at _ _ _ _ _ _ _ a wd in let gd = good-under _ _ _ _ _ _ u in let f = facts _ _ _ _ _ gd in (λ x₀ k. c .branch .ensures .0 _ _ _ _ x₀ wd k, c .branch .ensures .1)
+returns-4 c =
+    let c10 = c .before .before .before .before .before .before .before .before .before .before in
+    let wd = c10 .before .before .before .before .pre .1 in
+    (λ x₀ k. c .branch .ensures .0 _ _ _ _ x₀ wd k, c .branch .ensures .1)
 
 returns-5 : tie.Need-returns-5
-returns-5 c = let a = c .before .before .before .before .before .before .before .before .pre .0 in let wd = c .before .before .before .before .before .before .before .before .pre .1 in let b = c .before .before .before .before .before .before .before .before .pre .2 in let o = c .before .before .before .before .before .before .before .before .pre .3 in let u = under-at _ _ _ _ _ _ _ a wd in let gd = good-under _ _ _ _ _ _ u in let f = facts _ _ _ _ _ gd in let e = c .enters .ensures in (λ x₀ k. entered _ _ _ _ _ _ b _ e (first-second _ _ _ _ _ f (b .idle) (kind-call _ _ _ (c .before .match .keys5))) _ _ _ _ x₀ wd k, rw e (omega arith))
+returns-5 c =
+    let a = c .before .before .before .before .before .before .before .before .pre .0 in
+    let wd = c .before .before .before .before .before .before .before .before .pre .1 in
+    let b = c .before .before .before .before .before .before .before .before .pre .2 in
+    let u = under-at _ _ _ _ _ _ _ a wd in
+    let gd = good-under _ _ _ _ _ _ u in
+    let f = facts _ _ _ _ _ gd in
+    let e = c .enters .ensures in (
+      λ x₀ k. entered _ _ _ _ _ _ b _ e (first-second _ _ _ _ _ f (b .idle) (kind-call _ _ _ (c .before .match .keys5))) _ _ _ _ x₀
+          wd k,
+      rw e (omega arith),
+    )
 
 same-length-11 : tie.Need-same-length-11
 same-length-11 c = search needs
@@ -130,7 +241,17 @@ same-length-13 : tie.Need-same-length-13
 same-length-13 c = search needs
 
 returns-6 : tie.Need-returns-6
-returns-6 c = let a = c .before .before .before .before .before .before .before .before .before .before .before .before .before .before .before .before .before .before .before .before .before .before .before .before .pre .0 in let wd = c .before .before .before .before .before .before .before .before .before .before .before .before .before .before .before .before .before .before .before .before .before .before .before .before .pre .1 in let b = c .before .before .before .before .before .before .before .before .before .before .before .before .before .before .before .before .before .before .before .before .before .before .before .before .pre .2 in let o = c .before .before .before .before .before .before .before .before .before .before .before .before .before .before .before .before .before .before .before .before .before .before .before .before .pre .3 in let u = under-at _ _ _ _ _ _ _ a wd in let gd = good-under _ _ _ _ _ _ u in let f = facts _ _ _ _ _ gd in (λ x₀ k. answered _ _ _ x₀ _ _ _ _ _ _ k (b .more) _ _ _ _ (ready-here _ _ _ _ _ _ _ wd (b .unheld) (b .idle) (b .none) _ (c .before .before .before .before .before .before .before .before .before .first-arithmetic .ensures)) _ _ _ (c .before .before .before .before .went3 .ensures .0) (c .before .before .before .before .went3 .ensures .1) (c .before .before .before .before .went3 .ensures .2), rw (c .before .before .before .before .went3 .ensures .0) (omega arith))
+returns-6 c =
+    let c10 = c .before .before .before .before .before .before .before .before .before .before in
+    let c20 = c10 .before .before .before .before .before .before .before .before .before .before in
+    let wd = c20 .before .before .before .before .pre .1 in
+    let b = c20 .before .before .before .before .pre .2 in (
+      λ x₀ k. answered _ _ _ x₀ _ _ _ _ _ _ k (b .more) _ _ _ _ (ready-here _ _ _ _ _ _ _ wd (b .unheld) (b .idle) (b .none) _ (c
+          .before .before .before .before .before .before .before .before .before .first-arithmetic .ensures)) _ _ _ (c .before .before
+          .before .before .went3 .ensures .0) (c .before .before .before .before .went3 .ensures .1) (c .before .before .before .before
+          .went3 .ensures .2),
+      rw (c .before .before .before .before .went3 .ensures .0) (omega arith),
+    )
 
 pub begin-spec : {M : Type 1} → statement M
 begin-spec =

@@ -3,10 +3,6 @@ use native.Mathlib.Omega.{arith}
 use borrow.Author.Needs.{needs}
 use Rattle.trm_turns.proofs.inner.ready.enters.Statement.{statement}
 use Rattle.trm_turns.proofs.inner.ready.enters.Tie as tie
-use Rattle.trm_turns.proofs.inner.ready.enters.Reads as reads
-use Rattle.trm_turns.proofs.inner.ready.enters.Lts as lts
-use Rattle.trm_steps.proofs.inner.scalars.advance.Reads as advance-reads
-use Rattle.trm_steps.proofs.inner.scalars.in_phase.Reads as in-phase-reads
 
 in-phase-requires : tie.Need-in-phase-requires
 in-phase-requires c κs = search needs

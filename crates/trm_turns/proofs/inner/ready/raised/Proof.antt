@@ -4,10 +4,6 @@ use Rattle.trm_turns.proofs.Laws.Next.{raised-none}
 use borrow.Author.Needs.{needs}
 use Rattle.trm_turns.proofs.inner.ready.raised.Statement.{statement}
 use Rattle.trm_turns.proofs.inner.ready.raised.Tie as tie
-use Rattle.trm_turns.proofs.inner.ready.raised.Reads as reads
-use Rattle.trm_turns.proofs.inner.ready.raised.Lts as lts
-use Rattle.trm_steps.proofs.inner.interrupt.interrupt_chosen.Reads as interrupt-chosen-reads
-use Rattle.trm_steps.proofs.inner.interrupt.is_stalled.Reads as is-stalled-reads
 
 returns : tie.Need-returns
 returns c = rw (c .if1 .taken) (sym (raised-none (c .before .args .status)))

@@ -7,31 +7,20 @@ use Rattle.trm_plan.proofs.Laws.Kinds.{unstepped-of, kind-short}
 use Rattle.trm_plan.proofs.Laws.Plans.{first-quick, idle-running}
 use Rattle.trm_turns.proofs.Laws.Next.{idled-same, turned-from, at-from, unraised, past-raised}
 use native.Mathlib.Omega.{arith}
-use native.Mathlib.Nat.{mod-lt}
-use Prim.Native.Nat.{ℕ, _+_, _*_, _-_, _≤_, _<_}
-use mathlib.Core.Path.{_≡_, refl, sym, ap, _∙_}
+use Prim.Native.Nat.{_-_, _≤_}
+use mathlib.Core.Path.{_≡_, refl, ap}
 use lib.ListN.{length, getD}
-use borrow.Author.Tests.{not-true, not-false}
 use Rattle.trm_cache.specs.Cache.{cache}
 use Rattle.trm_reference.specs.Interrupt.{stalled}
 use Rattle.trm_plan.proofs.Laws.Facts.{facts}
 use Rattle.trm_clock.proofs.Laws.Worked.{ends-worked}
 use Rattle.trm_clock.proofs.Laws.Words.{shows, other-made}
-use Rattle.trm_turns.proofs.Laws.Here.{ready-here, begun-here, flight-here, interrupt-here}
-use Rattle.trm_turns.proofs.Laws.Ahead.{past-free}
-use Rattle.trm_turns.proofs.Laws.Next.{answered, quiet-answered, onward-answered, room, few-done, due-true, last-here, entered, ended}
-use Rattle.trm_turns.proofs.Laws.Next.{seen, phase, word-next, good-next, under-at, good-under, good-at-turn, long-turned}
+use Rattle.trm_turns.proofs.Laws.Here.{ready-here}
+use Rattle.trm_turns.proofs.Laws.Next.{quiet-answered, few-done}
+use Rattle.trm_turns.proofs.Laws.Next.{phase, good-at-turn, long-turned}
 use borrow.Author.Needs.{needs}
 use Rattle.trm_turns.proofs.inner.ready.ready_turn.Statement.{statement}
 use Rattle.trm_turns.proofs.inner.ready.ready_turn.Tie as tie
-use Rattle.trm_turns.proofs.inner.ready.ready_turn.Reads as reads
-use Rattle.trm_turns.proofs.inner.ready.ready_turn.Lts as lts
-use Rattle.trm_execute.proofs.inner.words.short.Reads as short-reads
-use Rattle.trm_reading.proofs.inner.reading.word_at.Reads as word-at-reads
-use Rattle.trm_steps.proofs.inner.scalars.in_phase.Reads as in-phase-reads
-use Rattle.trm_turns.proofs.inner.going.quietly.Reads as quietly-reads
-use Rattle.trm_turns.proofs.inner.ready.begin.Reads as begin-reads
-use Rattle.trm_turns.proofs.inner.ready.raised.Reads as raised-reads
 
 abbrev Inv-loop : tie.InvT-loop
 Inv-loop program regs₀ full₀ dirty₀ block₀ words₀ store₀ lines inputs bytes₀ outs₀ h₀ regs full dirty block words store bytes outs h =
@@ -40,7 +29,8 @@ Inv-loop program regs₀ full₀ dirty₀ block₀ words₀ store₀ lines input
     × (h .scalars .running .phase ≡ 0) × (h₀ .at ≤ h .at) × (h .at ≡ h₀ .at → h .scalars .status ≡ h₀ .scalars .status)
 
 abbrev μ-loop : tie.MeasureT-loop
-μ-loop program regs₀ full₀ dirty₀ block₀ words₀ store₀ lines inputs bytes₀ outs₀ h₀ regs full dirty block words store bytes outs h = length lines - h .at
+μ-loop program regs₀ full₀ dirty₀ block₀ words₀ store₀ lines inputs bytes₀ outs₀ h₀ regs full dirty block words store bytes outs h =
+    length lines - h .at
 
 in-phase-requires : tie.Need-in-phase-requires Inv-loop μ-loop
 in-phase-requires c κs = search needs
@@ -55,64 +45,293 @@ raised-requires : tie.Need-raised-requires Inv-loop μ-loop
 raised-requires c κs = search needs
 
 same-length : tie.Need-same-length Inv-loop μ-loop
-same-length c = let a = c .before .before .before .before .before .before .before .before .before .before .before .before .before .before .pre .0 in let b = c .before .before .before .before .before .before .before .before .before .before .before .before .before .before .pre .1 in let n = c .before .before .before .before .before .loop .inv in let gd0 = good-at-turn _ _ _ _ _ _ _ _ _ _ a refl in let same = idled-same _ _ (c .before .before .before .before .before .before .before .before .before .before .before .before .before .before .args .g) _ _ (c .before .before .before .before .before .before .in-phase .result) (c .before .before .before .before .before .before .in-phase .ensures) gd0 (b .idle) in long-turned _ _ _ _ _ _ _ _ _ a (turned-from _ _ _ _ _ _ _ _ _ _ same _ _ _ (n .0)) .store
+same-length c =
+    let c10 = c .before .before .before .before .before .before .before .before .before .before in
+    let a = c10 .before .before .before .before .pre .0 in
+    let b = c10 .before .before .before .before .pre .1 in
+    let n = c .before .before .before .before .before .loop .inv in
+    let gd0 = good-at-turn _ _ _ _ _ _ _ _ _ _ a refl in
+    let same = idled-same _ _ (c10 .before .before .before .before .args .g) _ _ (c .before .before .before .before .before .before
+    .in-phase .result) (c .before .before .before .before .before .before .in-phase .ensures) gd0 (b .idle) in
+    long-turned _ _ _ _ _ _ _ _ _ a (turned-from _ _ _ _ _ _ _ _ _ _ same _ _ _ (n .0)) .store
 
 same-length-2 : tie.Need-same-length-2 Inv-loop μ-loop
-same-length-2 c = let a = c .before .before .before .before .before .before .before .before .before .before .before .before .before .before .pre .0 in let b = c .before .before .before .before .before .before .before .before .before .before .before .before .before .before .pre .1 in let n = c .before .before .before .before .before .loop .inv in let gd0 = good-at-turn _ _ _ _ _ _ _ _ _ _ a refl in let same = idled-same _ _ (c .before .before .before .before .before .before .before .before .before .before .before .before .before .before .args .g) _ _ (c .before .before .before .before .before .before .in-phase .result) (c .before .before .before .before .before .before .in-phase .ensures) gd0 (b .idle) in long-turned _ _ _ _ _ _ _ _ _ a (turned-from _ _ _ _ _ _ _ _ _ _ same _ _ _ (n .0)) .bytes
+same-length-2 c =
+    let c10 = c .before .before .before .before .before .before .before .before .before .before in
+    let a = c10 .before .before .before .before .pre .0 in
+    let b = c10 .before .before .before .before .pre .1 in
+    let n = c .before .before .before .before .before .loop .inv in
+    let gd0 = good-at-turn _ _ _ _ _ _ _ _ _ _ a refl in
+    let same = idled-same _ _ (c10 .before .before .before .before .args .g) _ _ (c .before .before .before .before .before .before
+    .in-phase .result) (c .before .before .before .before .before .before .in-phase .ensures) gd0 (b .idle) in
+    long-turned _ _ _ _ _ _ _ _ _ a (turned-from _ _ _ _ _ _ _ _ _ _ same _ _ _ (n .0)) .bytes
 
 same-length-3 : tie.Need-same-length-3 Inv-loop μ-loop
-same-length-3 c = let a = c .before .before .before .before .before .before .before .before .before .before .before .before .before .before .pre .0 in let b = c .before .before .before .before .before .before .before .before .before .before .before .before .before .before .pre .1 in let n = c .before .before .before .before .before .loop .inv in let gd0 = good-at-turn _ _ _ _ _ _ _ _ _ _ a refl in let same = idled-same _ _ (c .before .before .before .before .before .before .before .before .before .before .before .before .before .before .args .g) _ _ (c .before .before .before .before .before .before .in-phase .result) (c .before .before .before .before .before .before .in-phase .ensures) gd0 (b .idle) in long-turned _ _ _ _ _ _ _ _ _ a (turned-from _ _ _ _ _ _ _ _ _ _ same _ _ _ (n .0)) .words
+same-length-3 c =
+    let c10 = c .before .before .before .before .before .before .before .before .before .before in
+    let a = c10 .before .before .before .before .pre .0 in
+    let b = c10 .before .before .before .before .pre .1 in
+    let n = c .before .before .before .before .before .loop .inv in
+    let gd0 = good-at-turn _ _ _ _ _ _ _ _ _ _ a refl in
+    let same = idled-same _ _ (c10 .before .before .before .before .args .g) _ _ (c .before .before .before .before .before .before
+    .in-phase .result) (c .before .before .before .before .before .before .in-phase .ensures) gd0 (b .idle) in
+    long-turned _ _ _ _ _ _ _ _ _ a (turned-from _ _ _ _ _ _ _ _ _ _ same _ _ _ (n .0)) .words
 
 returns : tie.Need-returns Inv-loop μ-loop
-returns c = let a = c .before .before .before .before .before .before .before .before .before .before .before .before .before .before .pre .0 in let b = c .before .before .before .before .before .before .before .before .before .before .before .before .before .before .pre .1 in let n = c .before .before .before .before .before .loop .inv in let gd0 = good-at-turn _ _ _ _ _ _ _ _ _ _ a refl in let same = idled-same _ _ (c .before .before .before .before .before .before .before .before .before .before .before .before .before .before .args .g) _ _ (c .before .before .before .before .before .before .in-phase .result) (c .before .before .before .before .before .before .in-phase .ensures) gd0 (b .idle) in (turned-from _ _ _ _ _ _ _ _ _ _ same _ _ _ (n .0), past-raised (c .before .before .before .before .before .before .before .before .before .before .before .before .before .before .args .lines .now) (c .before .before .before .before .before .before .before .before .before .before .before .before .before .before .args .g) (c .before .before .before .before .before .loop .h .at) (c .before .before .before .before .before .loop .h .scalars .status) (c .before .raised .result) b (n .2) (n .3) (c .before .raised .ensures) (c .if2 .taken))
+returns c =
+    let c10 = c .before .before .before .before .before .before .before .before .before .before in
+    let a = c10 .before .before .before .before .pre .0 in
+    let b = c10 .before .before .before .before .pre .1 in
+    let n = c .before .before .before .before .before .loop .inv in
+    let gd0 = good-at-turn _ _ _ _ _ _ _ _ _ _ a refl in
+    let same = idled-same _ _ (c10 .before .before .before .before .args .g) _ _ (c .before .before .before .before .before .before
+    .in-phase .result) (c .before .before .before .before .before .before .in-phase .ensures) gd0 (b .idle) in (
+      turned-from _ _ _ _ _ _ _ _ _ _ same _ _ _ (n .0),
+      past-raised (c10 .before .before .before .before .args .lines .now) (c10
+          .before .before .before .before .args .g) (c .before .before .before .before .before .loop .h .at) (c .before .before .before
+          .before .before .loop .h .scalars .status) (c .before .raised .result) b (n .2) (n .3) (c .before .raised .ensures) (c .if2
+          .taken),
+    )
 
 word-at-requires : tie.Need-word-at-requires Inv-loop μ-loop
 word-at-requires c κs = search needs
 
 short-requires : tie.Need-short-requires Inv-loop μ-loop
-short-requires c κs = let a = c .before .before .before .before .before .before .before .before .before .before .before .before .before .before .before .before .before .pre .0 in let b = c .before .before .before .before .before .before .before .before .before .before .before .before .before .before .before .before .before .pre .1 in let n = c .before .before .before .before .before .before .before .before .loop .inv in let gd0 = good-at-turn _ _ _ _ _ _ _ _ _ _ a refl in let same = idled-same _ _ (c .before .before .before .before .before .before .before .before .before .before .before .before .before .before .before .before .before .args .g) _ _ (c .before .before .before .before .before .before .before .before .before .in-phase .result) (c .before .before .before .before .before .before .before .before .before .in-phase .ensures) gd0 (b .idle) in let ah = at-from _ _ _ _ _ _ _ _ _ _ same _ _ _ (n .0) a in let gd = good-at-turn _ _ _ _ _ _ _ _ _ _ ah (c .before .before .word-at .ensures) in let f = facts _ _ _ _ _ gd in (gd .widths, gd .counts, idle-running _ _ _ _ _ f (n .1), omega (arith, c .before .if3 .taken), unstepped-of _ (λ z. omega (arith, c .before .if3 .taken, z)) (λ z. omega (arith, c .before .if3 .taken, z)))
+short-requires c κs =
+    let c10 = c .before .before .before .before .before .before .before .before .before .before in
+    let a = c10 .before .before .before .before .before .before .before .pre .0 in
+    let b = c10 .before .before .before .before .before .before .before .pre .1 in
+    let n = c .before .before .before .before .before .before .before .before .loop .inv in
+    let gd0 = good-at-turn _ _ _ _ _ _ _ _ _ _ a refl in
+    let same = idled-same _ _ (c10 .before .before .before .before .before .before .before .args .g) _ _ (c .before .before .before
+    .before .before .before .before .before .before .in-phase .result) (c .before .before .before .before .before .before .before
+    .before .before .in-phase .ensures) gd0 (b .idle) in
+    let ah = at-from _ _ _ _ _ _ _ _ _ _ same _ _ _ (n .0) a in
+    let gd = good-at-turn _ _ _ _ _ _ _ _ _ _ ah (c .before .before .word-at .ensures) in
+    let f = facts _ _ _ _ _ gd in (
+      gd .widths,
+      gd .counts,
+      idle-running _ _ _ _ _ f (n .1),
+      omega (arith, c .before .if3 .taken),
+      unstepped-of _ (λ z. omega
+          (arith, c .before .if3 .taken, z)) (λ z. omega (arith, c .before .if3 .taken, z)),
+    )
 
 quietly-requires : tie.Need-quietly-requires Inv-loop μ-loop
-quietly-requires c κs = let a = c .before .before .before .before .before .before .before .before .before .before .before .before .before .before .before .before .before .before .pre .0 in let b = c .before .before .before .before .before .before .before .before .before .before .before .before .before .before .before .before .before .before .pre .1 in let n = c .before .before .before .before .before .before .before .before .before .loop .inv in let gd0 = good-at-turn _ _ _ _ _ _ _ _ _ _ a refl in let same = idled-same _ _ (c .before .before .before .before .before .before .before .before .before .before .before .before .before .before .before .before .before .before .args .g) _ _ (c .before .before .before .before .before .before .before .before .before .before .in-phase .result) (c .before .before .before .before .before .before .before .before .before .before .in-phase .ensures) gd0 (b .idle) in let ah = at-from _ _ _ _ _ _ _ _ _ _ same _ _ _ (n .0) a in let k = few-done _ _ _ _ _ _ _ _ _ _ (ah .so) (c .before .before .before .before .before .before .before .if1 .taken) in (k .0, k .1, omega arith)
+quietly-requires c κs =
+    let c10 = c .before .before .before .before .before .before .before .before .before .before in
+    let a = c10 .before .before .before .before .before .before .before .before .pre .0 in
+    let b = c10 .before .before .before .before .before .before .before .before .pre .1 in
+    let n = c .before .before .before .before .before .before .before .before .before .loop .inv in
+    let gd0 = good-at-turn _ _ _ _ _ _ _ _ _ _ a refl in
+    let same = idled-same _ _ (c10 .before .before .before .before .before .before .before .before .args .g) _ _ (c10 .in-phase
+    .result) (c10 .in-phase .ensures) gd0 (b .idle) in
+    let ah = at-from _ _ _ _ _ _ _ _ _ _ same _ _ _ (n .0) a in
+    let k = few-done _ _ _ _ _ _ _ _ _ _ (ah .so) (c .before .before .before .before .before .before .before .if1 .taken) in
+    (k .0, k .1, omega arith)
 
 loop-less : tie.Need-loop-less Inv-loop μ-loop
-loop-less c = let a = c .before .before .before .before .before .before .before .before .before .before .before .before .before .before .before .before .before .before .before .pre .0 in let b = c .before .before .before .before .before .before .before .before .before .before .before .before .before .before .before .before .before .before .before .pre .1 in let n = c .before .before .before .before .before .before .before .before .before .before .loop .inv in let gd0 = good-at-turn _ _ _ _ _ _ _ _ _ _ a refl in let same = idled-same _ _ (c .before .before .before .before .before .before .before .before .before .before .before .before .before .before .before .before .before .before .before .args .g) _ _ (c .before .before .before .before .before .before .before .before .before .before .before .in-phase .result) (c .before .before .before .before .before .before .before .before .before .before .before .in-phase .ensures) gd0 (b .idle) in rw (c .quietly .ensures) (omega (arith, c .before .before .before .before .before .before .before .before .if1 .taken))
+loop-less c =
+    rw (c .quietly .ensures) (omega (arith, c .before .before .before .before .before .before .before .before .if1 .taken))
 
 loop-again : tie.Need-loop-again Inv-loop μ-loop
-loop-again c = let a = c .before .before .before .before .before .before .before .before .before .before .before .before .before .before .before .before .before .before .before .pre .0 in let b = c .before .before .before .before .before .before .before .before .before .before .before .before .before .before .before .before .before .before .before .pre .1 in let n = c .before .before .before .before .before .before .before .before .before .before .loop .inv in let gd0 = good-at-turn _ _ _ _ _ _ _ _ _ _ a refl in let same = idled-same _ _ (c .before .before .before .before .before .before .before .before .before .before .before .before .before .before .before .before .before .before .before .args .g) _ _ (c .before .before .before .before .before .before .before .before .before .before .before .in-phase .result) (c .before .before .before .before .before .before .before .before .before .before .before .in-phase .ensures) gd0 (b .idle) in let ah = at-from _ _ _ _ _ _ _ _ _ _ same _ _ _ (n .0) a in let y = unraised (stalled (getD (c .before .before .before .before .before .before .before .before .before .before .before .before .before .before .before .before .before .before .before .args .lines .now) (c .before .before .before .before .before .before .before .before .before .before .loop .h .at) 0)) (interruptChosen (c .before .before .before .before .before .before .before .before .before .before .loop .h .scalars .status) (getD (c .before .before .before .before .before .before .before .before .before .before .before .before .before .before .before .before .before .before .before .args .lines .now) (c .before .before .before .before .before .before .before .before .before .before .loop .h .at) 0)) (c .before .before .before .before .before .before .raised .result) (c .before .before .before .before .before .before .raised .ensures) (c .before .before .before .before .before .if2 .left) in let gd = good-at-turn _ _ _ _ _ _ _ _ _ _ ah (c .before .before .before .before .word-at .ensures) in let f = facts _ _ _ _ _ gd in (λ x₀ k. quiet-answered _ _ _ x₀ _ _ _ _ _ _ (n .0 x₀ k) (c .before .before .before .before .before .before .before .before .if1 .taken) _ 1 _ _ _ (ready-here _ _ _ _ _ _ _ (c .before .before .before .before .word-at .ensures) (y .0) (n .1) (y .1) _ (ends-worked _ _ _ _ _ _ _ (first-quick _ _ _ _ _ f (n .1) (kind-short _ _ _ (omega (arith, c .before .before .before .if3 .taken)) (unstepped-of _ (λ z. omega (arith, c .before .before .before .if3 .taken, z)) (λ z. omega (arith, c .before .before .before .if3 .taken, z)))) .0) _ (other-made _ _ _ _ _ _ _ (λ z. omega (arith, c .before .before .before .if3 .taken, z)) (λ z. omega (arith, c .before .before .before .if3 .taken, z)) (λ z. omega (arith, c .before .before .before .if3 .taken, z)) (shows (c .before .short .result) 0 0) _ _ refl (c .before .short .ensures .0) (c .before .short .ensures .1)))) _ (c .quietly .ensures), rw (c .quietly .ensures, c .before .short .ensures .0), rw (c .quietly .ensures) (omega (arith, n .2)), λ z. absurd (omega (arith, n .2, ap (λ (t : Going). t .at) (c .quietly .ensures), z)))
+loop-again c =
+    let c10 = c .before .before .before .before .before .before .before .before .before .before in
+    let a = c10 .before .before .before .before .before .before .before .before .before .pre .0 in
+    let b = c10 .before .before .before .before .before .before .before .before .before .pre .1 in
+    let n = c10 .loop .inv in
+    let gd0 = good-at-turn _ _ _ _ _ _ _ _ _ _ a refl in
+    let same = idled-same _ _ (c10 .before .before .before .before .before .before .before .before .before .args .g) _ _ (c10
+    .before .in-phase .result) (c10 .before .in-phase .ensures) gd0 (b .idle) in
+    let ah = at-from _ _ _ _ _ _ _ _ _ _ same _ _ _ (n .0) a in
+    let y = unraised (stalled (getD (c10 .before .before .before .before .before .before .before .before .before .args .lines .now)
+    (c10 .loop .h .at) 0)) (interruptChosen (c10 .loop .h .scalars .status) (getD (c10 .before .before .before .before .before
+    .before .before .before .before .args .lines .now) (c10 .loop .h .at) 0)) (c .before .before .before .before .before .before
+    .raised .result) (c .before .before .before .before .before .before .raised .ensures) (c .before .before .before .before .before
+    .if2 .left) in
+    let gd = good-at-turn _ _ _ _ _ _ _ _ _ _ ah (c .before .before .before .before .word-at .ensures) in
+    let f = facts _ _ _ _ _ gd in (
+      λ x₀ k. quiet-answered _ _ _ x₀ _ _ _ _ _ _ (n .0 x₀ k) (c .before .before .before .before .before .before .before .before .if1
+          .taken) _ 1 _ _ _ (ready-here _ _ _ _ _ _ _ (c .before .before .before .before .word-at .ensures) (y .0) (n .1) (y .1) _
+          (ends-worked _ _ _ _ _ _ _ (first-quick _ _ _ _ _ f (n .1) (kind-short _ _ _ (omega (
+            arith,
+            c .before .before .before .if3
+                .taken,
+          )) (unstepped-of _ (λ z. omega (arith, c .before .before .before .if3 .taken, z)) (λ z. omega (
+            arith,
+            c .before .before
+                .before .if3 .taken,
+            z,
+          )))) .0) _ (other-made _ _ _ _ _ _ _ (λ z. omega (arith, c .before .before .before .if3 .taken, z)) (λ z.
+          omega (arith, c .before .before .before .if3 .taken, z)) (λ z. omega (arith, c .before .before .before .if3 .taken, z)) (shows
+          (c .before .short .result) 0 0) _ _ refl (c .before .short .ensures .0) (c .before .short .ensures .1)))) _ (c .quietly
+          .ensures),
+      rw (c .quietly .ensures, c .before .short .ensures .0),
+      rw (c .quietly .ensures) (omega (arith, n .2)),
+      λ z. absurd
+          (omega (arith, n .2, ap (λ (t : Going). t .at) (c .quietly .ensures), z)),
+    )
 
 begin-requires : tie.Need-begin-requires Inv-loop μ-loop
-begin-requires c κs = let a = c .before .before .before .before .before .before .before .before .before .before .before .before .before .before .before .before .before .before .before .before .before .before .before .before .pre .0 in let b = c .before .before .before .before .before .before .before .before .before .before .before .before .before .before .before .before .before .before .before .before .before .before .before .before .pre .1 in let n = c .before .before .before .before .before .before .before .before .before .before .before .before .before .before .before .loop .inv in let gd0 = good-at-turn _ _ _ _ _ _ _ _ _ _ a refl in let same = idled-same _ _ (c .before .before .before .before .before .before .before .before .before .before .before .before .before .before .before .before .before .before .before .before .before .before .before .before .args .g) _ _ (c .before .before .before .before .before .before .before .before .before .before .before .before .before .before .before .before .in-phase .result) (c .before .before .before .before .before .before .before .before .before .before .before .before .before .before .before .before .in-phase .ensures) gd0 (b .idle) in let ah = at-from _ _ _ _ _ _ _ _ _ _ same _ _ _ (n .0) a in let y = unraised (stalled (getD (c .before .before .before .before .before .before .before .before .before .before .before .before .before .before .before .before .before .before .before .before .before .before .before .before .args .lines .now) (c .before .before .before .before .before .before .before .before .before .before .before .before .before .before .before .loop .h .at) 0)) (interruptChosen (c .before .before .before .before .before .before .before .before .before .before .before .before .before .before .before .loop .h .scalars .status) (getD (c .before .before .before .before .before .before .before .before .before .before .before .before .before .before .before .before .before .before .before .before .before .before .before .before .args .lines .now) (c .before .before .before .before .before .before .before .before .before .before .before .before .before .before .before .loop .h .at) 0)) (c .before .before .before .before .before .before .before .before .before .before .before .raised .result) (c .before .before .before .before .before .before .before .before .before .before .before .raised .ensures) (c .before .before .before .before .before .before .before .before .before .before .if2 .left) in (ah, c .before .before .before .before .before .before .before .before .before .word-at .ensures, record { more = c .before .before .before .before .before .before .before .before .before .before .before .before .before .if1 .taken; unheld = y .0; none = y .1; idle = n .1 }, omega (arith, c .before .before .before .before .before .before .before .before .if3 .left))
+begin-requires c κs =
+    let c10 = c .before .before .before .before .before .before .before .before .before .before in
+    let c20 = c10 .before .before .before .before .before .before .before .before .before .before in
+    let a = c20 .before .before .before .before .pre .0 in
+    let b = c20 .before .before .before .before .pre .1 in
+    let n = c10 .before .before .before .before .before .loop .inv in
+    let gd0 = good-at-turn _ _ _ _ _ _ _ _ _ _ a refl in
+    let same = idled-same _ _ (c20 .before .before .before .before .args .g) _ _ (c10 .before .before .before .before .before
+    .before .in-phase .result) (c10 .before .before .before .before .before .before .in-phase .ensures) gd0 (b .idle) in
+    let ah = at-from _ _ _ _ _ _ _ _ _ _ same _ _ _ (n .0) a in
+    let y = unraised (stalled (getD (c20 .before .before .before .before .args .lines .now) (c10 .before .before .before .before
+    .before .loop .h .at) 0)) (interruptChosen (c10 .before .before .before .before .before .loop .h .scalars .status) (getD (c20
+    .before .before .before .before .args .lines .now) (c10 .before .before .before .before .before .loop .h .at) 0)) (c10 .before
+    .raised .result) (c10 .before .raised .ensures) (c10 .if2 .left) in (
+      ah,
+      c .before .before .before .before .before .before .before .before .before .word-at .ensures,
+      record {
+        more = c10 .before
+            .before .before .if1 .taken;
+        unheld = y .0;
+        none = y .1;
+        idle = n .1;
+      },
+      omega (
+        arith,
+        c .before .before .before .before .before
+            .before .before .before .if3 .left,
+      ),
+    )
 
 same-length-4 : tie.Need-same-length-4 Inv-loop μ-loop
-same-length-4 c = let a = c .before .before .before .before .before .before .before .before .before .before .before .before .before .before .before .before .before .before .before .before .before .before .before .before .before .before .before .before .before .before .before .before .before .pre .0 in let b = c .before .before .before .before .before .before .before .before .before .before .before .before .before .before .before .before .before .before .before .before .before .before .before .before .before .before .before .before .before .before .before .before .before .pre .1 in let n = c .before .before .before .before .before .before .before .before .before .before .before .before .before .before .before .before .before .before .before .before .before .before .before .before .loop .inv in let gd0 = good-at-turn _ _ _ _ _ _ _ _ _ _ a refl in let same = idled-same _ _ (c .before .before .before .before .before .before .before .before .before .before .before .before .before .before .before .before .before .before .before .before .before .before .before .before .before .before .before .before .before .before .before .before .before .args .g) _ _ (c .before .before .before .before .before .before .before .before .before .before .before .before .before .before .before .before .before .before .before .before .before .before .before .before .before .in-phase .result) (c .before .before .before .before .before .before .before .before .before .before .before .before .before .before .before .before .before .before .before .before .before .before .before .before .before .in-phase .ensures) gd0 (b .idle) in long-turned _ _ _ _ _ _ _ _ _ a (turned-from _ _ _ _ _ _ _ _ _ _ same _ _ _ ((λ x₀ k. c .before .before .before .before .before .before .before .before .begin .ensures .0 x₀ (n .0 x₀ k)))) .store
+same-length-4 c =
+    let c10 = c .before .before .before .before .before .before .before .before .before .before in
+    let c20 = c10 .before .before .before .before .before .before .before .before .before .before in
+    let c30 = c20 .before .before .before .before .before .before .before .before .before .before in
+    let a = c30 .before .before .before .pre .0 in
+    let b = c30 .before .before .before .pre .1 in
+    let n = c20 .before .before .before .before .loop .inv in
+    let gd0 = good-at-turn _ _ _ _ _ _ _ _ _ _ a refl in
+    let same = idled-same _ _ (c30 .before .before .before .args .g) _ _ (c20 .before .before .before .before .before .in-phase
+    .result) (c20 .before .before .before .before .before .in-phase .ensures) gd0 (b .idle) in
+    long-turned _ _ _ _ _ _ _ _ _ a (turned-from _ _ _ _ _ _ _ _ _ _ same _ _ _ ((λ x₀ k. c .before .before .before .before .before
+    .before .before .before .begin .ensures .0 x₀ (n .0 x₀ k)))) .store
 
 same-length-5 : tie.Need-same-length-5 Inv-loop μ-loop
-same-length-5 c = let a = c .before .before .before .before .before .before .before .before .before .before .before .before .before .before .before .before .before .before .before .before .before .before .before .before .before .before .before .before .before .before .before .before .before .pre .0 in let b = c .before .before .before .before .before .before .before .before .before .before .before .before .before .before .before .before .before .before .before .before .before .before .before .before .before .before .before .before .before .before .before .before .before .pre .1 in let n = c .before .before .before .before .before .before .before .before .before .before .before .before .before .before .before .before .before .before .before .before .before .before .before .before .loop .inv in let gd0 = good-at-turn _ _ _ _ _ _ _ _ _ _ a refl in let same = idled-same _ _ (c .before .before .before .before .before .before .before .before .before .before .before .before .before .before .before .before .before .before .before .before .before .before .before .before .before .before .before .before .before .before .before .before .before .args .g) _ _ (c .before .before .before .before .before .before .before .before .before .before .before .before .before .before .before .before .before .before .before .before .before .before .before .before .before .in-phase .result) (c .before .before .before .before .before .before .before .before .before .before .before .before .before .before .before .before .before .before .before .before .before .before .before .before .before .in-phase .ensures) gd0 (b .idle) in long-turned _ _ _ _ _ _ _ _ _ a (turned-from _ _ _ _ _ _ _ _ _ _ same _ _ _ ((λ x₀ k. c .before .before .before .before .before .before .before .before .begin .ensures .0 x₀ (n .0 x₀ k)))) .bytes
+same-length-5 c =
+    let c10 = c .before .before .before .before .before .before .before .before .before .before in
+    let c20 = c10 .before .before .before .before .before .before .before .before .before .before in
+    let c30 = c20 .before .before .before .before .before .before .before .before .before .before in
+    let a = c30 .before .before .before .pre .0 in
+    let b = c30 .before .before .before .pre .1 in
+    let n = c20 .before .before .before .before .loop .inv in
+    let gd0 = good-at-turn _ _ _ _ _ _ _ _ _ _ a refl in
+    let same = idled-same _ _ (c30 .before .before .before .args .g) _ _ (c20 .before .before .before .before .before .in-phase
+    .result) (c20 .before .before .before .before .before .in-phase .ensures) gd0 (b .idle) in
+    long-turned _ _ _ _ _ _ _ _ _ a (turned-from _ _ _ _ _ _ _ _ _ _ same _ _ _ ((λ x₀ k. c .before .before .before .before .before
+    .before .before .before .begin .ensures .0 x₀ (n .0 x₀ k)))) .bytes
 
 same-length-6 : tie.Need-same-length-6 Inv-loop μ-loop
-same-length-6 c = let a = c .before .before .before .before .before .before .before .before .before .before .before .before .before .before .before .before .before .before .before .before .before .before .before .before .before .before .before .before .before .before .before .before .before .pre .0 in let b = c .before .before .before .before .before .before .before .before .before .before .before .before .before .before .before .before .before .before .before .before .before .before .before .before .before .before .before .before .before .before .before .before .before .pre .1 in let n = c .before .before .before .before .before .before .before .before .before .before .before .before .before .before .before .before .before .before .before .before .before .before .before .before .loop .inv in let gd0 = good-at-turn _ _ _ _ _ _ _ _ _ _ a refl in let same = idled-same _ _ (c .before .before .before .before .before .before .before .before .before .before .before .before .before .before .before .before .before .before .before .before .before .before .before .before .before .before .before .before .before .before .before .before .before .args .g) _ _ (c .before .before .before .before .before .before .before .before .before .before .before .before .before .before .before .before .before .before .before .before .before .before .before .before .before .in-phase .result) (c .before .before .before .before .before .before .before .before .before .before .before .before .before .before .before .before .before .before .before .before .before .before .before .before .before .in-phase .ensures) gd0 (b .idle) in long-turned _ _ _ _ _ _ _ _ _ a (turned-from _ _ _ _ _ _ _ _ _ _ same _ _ _ ((λ x₀ k. c .before .before .before .before .before .before .before .before .begin .ensures .0 x₀ (n .0 x₀ k)))) .words
+same-length-6 c =
+    let c10 = c .before .before .before .before .before .before .before .before .before .before in
+    let c20 = c10 .before .before .before .before .before .before .before .before .before .before in
+    let c30 = c20 .before .before .before .before .before .before .before .before .before .before in
+    let a = c30 .before .before .before .pre .0 in
+    let b = c30 .before .before .before .pre .1 in
+    let n = c20 .before .before .before .before .loop .inv in
+    let gd0 = good-at-turn _ _ _ _ _ _ _ _ _ _ a refl in
+    let same = idled-same _ _ (c30 .before .before .before .args .g) _ _ (c20 .before .before .before .before .before .in-phase
+    .result) (c20 .before .before .before .before .before .in-phase .ensures) gd0 (b .idle) in
+    long-turned _ _ _ _ _ _ _ _ _ a (turned-from _ _ _ _ _ _ _ _ _ _ same _ _ _ ((λ x₀ k. c .before .before .before .before .before
+    .before .before .before .begin .ensures .0 x₀ (n .0 x₀ k)))) .words
 
 returns-2 : tie.Need-returns-2 Inv-loop μ-loop
-returns-2 c = let a = c .before .before .before .before .before .before .before .before .before .before .before .before .before .before .before .before .before .before .before .before .before .before .before .before .before .before .before .before .before .before .before .before .before .pre .0 in let b = c .before .before .before .before .before .before .before .before .before .before .before .before .before .before .before .before .before .before .before .before .before .before .before .before .before .before .before .before .before .before .before .before .before .pre .1 in let n = c .before .before .before .before .before .before .before .before .before .before .before .before .before .before .before .before .before .before .before .before .before .before .before .before .loop .inv in let gd0 = good-at-turn _ _ _ _ _ _ _ _ _ _ a refl in let same = idled-same _ _ (c .before .before .before .before .before .before .before .before .before .before .before .before .before .before .before .before .before .before .before .before .before .before .before .before .before .before .before .before .before .before .before .before .before .args .g) _ _ (c .before .before .before .before .before .before .before .before .before .before .before .before .before .before .before .before .before .before .before .before .before .before .before .before .before .in-phase .result) (c .before .before .before .before .before .before .before .before .before .before .before .before .before .before .before .before .before .before .before .before .before .before .before .before .before .in-phase .ensures) gd0 (b .idle) in (turned-from _ _ _ _ _ _ _ _ _ _ same _ _ _ (λ x₀ k. c .before .before .before .before .before .before .before .before .begin .ensures .0 x₀ (n .0 x₀ k)), omega (arith, n .2, c .before .before .before .before .before .before .before .before .begin .ensures .1))
+returns-2 c =
+    let c10 = c .before .before .before .before .before .before .before .before .before .before in
+    let c20 = c10 .before .before .before .before .before .before .before .before .before .before in
+    let c30 = c20 .before .before .before .before .before .before .before .before .before .before in
+    let a = c30 .before .before .before .pre .0 in
+    let b = c30 .before .before .before .pre .1 in
+    let n = c20 .before .before .before .before .loop .inv in
+    let gd0 = good-at-turn _ _ _ _ _ _ _ _ _ _ a refl in
+    let same = idled-same _ _ (c30 .before .before .before .args .g) _ _ (c20 .before .before .before .before .before .in-phase
+    .result) (c20 .before .before .before .before .before .in-phase .ensures) gd0 (b .idle) in (
+      turned-from _ _ _ _ _ _ _ _ _ _ same _ _ _ (λ x₀ k. c .before .before .before .before .before .before .before .before .begin
+          .ensures .0 x₀ (n .0 x₀ k)),
+      omega (
+        arith,
+        n .2,
+        c .before .before .before .before .before .before .before .before .begin
+            .ensures .1,
+      ),
+    )
 
 loop-less-2 : tie.Need-loop-less-2 Inv-loop μ-loop
-loop-less-2 c = omega (arith, c .before .before .before .before .before .before .before .before .begin .ensures .1, c .before .before .before .before .before .before .before .before .before .before .before .before .before .before .before .before .before .before .before .before .before .before .if1 .taken)
+loop-less-2 c =
+    let c10 = c .before .before .before .before .before .before .before .before .before .before in
+    let c20 = c10 .before .before .before .before .before .before .before .before .before .before in
+    omega (
+      arith,
+      c .before .before .before .before .before .before .before .before .begin .ensures .1,
+      c20 .before .before .if1
+          .taken,
+    )
 
 loop-again-2 : tie.Need-loop-again-2 Inv-loop μ-loop
-loop-again-2 c = let n = c .before .before .before .before .before .before .before .before .before .before .before .before .before .before .before .before .before .before .before .before .before .before .before .before .loop .inv in ((λ x₀ k. c .before .before .before .before .before .before .before .before .begin .ensures .0 x₀ (n .0 x₀ k)), c .if4 .left, omega (arith, n .2, c .before .before .before .before .before .before .before .before .begin .ensures .1), λ z. absurd (omega (arith, n .2, c .before .before .before .before .before .before .before .before .begin .ensures .1, z)))
+loop-again-2 c =
+    let c10 = c .before .before .before .before .before .before .before .before .before .before in
+    let c20 = c10 .before .before .before .before .before .before .before .before .before .before in
+    let n = c20 .before .before .before .before .loop .inv in (
+      (λ x₀ k. c .before .before .before .before .before .before .before .before .begin .ensures .0 x₀ (n .0 x₀ k)),
+      c .if4 .left,
+      omega (arith, n .2, c .before .before .before .before .before .before .before .before .begin .ensures .1),
+      λ z. absurd (omega
+          (arith, n .2, c .before .before .before .before .before .before .before .before .begin .ensures .1, z)),
+    )
 
 same-length-7 : tie.Need-same-length-7 Inv-loop μ-loop
-same-length-7 c = let a = c .before .before .before .before .before .before .before .before .before .before .before .pre .0 in let b = c .before .before .before .before .before .before .before .before .before .before .before .pre .1 in let n = c .before .before .loop .inv in let gd0 = good-at-turn _ _ _ _ _ _ _ _ _ _ a refl in let same = idled-same _ _ (c .before .before .before .before .before .before .before .before .before .before .before .args .g) _ _ (c .before .before .before .in-phase .result) (c .before .before .before .in-phase .ensures) gd0 (b .idle) in long-turned _ _ _ _ _ _ _ _ _ a (turned-from _ _ _ _ _ _ _ _ _ _ same _ _ _ (n .0)) .store
+same-length-7 c =
+    let c10 = c .before .before .before .before .before .before .before .before .before .before in
+    let a = c10 .before .pre .0 in
+    let b = c10 .before .pre .1 in
+    let n = c .before .before .loop .inv in
+    let gd0 = good-at-turn _ _ _ _ _ _ _ _ _ _ a refl in
+    let same = idled-same _ _ (c10 .before .args .g) _ _ (c .before .before .before .in-phase .result) (c .before .before .before
+    .in-phase .ensures) gd0 (b .idle) in
+    long-turned _ _ _ _ _ _ _ _ _ a (turned-from _ _ _ _ _ _ _ _ _ _ same _ _ _ (n .0)) .store
 
 same-length-8 : tie.Need-same-length-8 Inv-loop μ-loop
-same-length-8 c = let a = c .before .before .before .before .before .before .before .before .before .before .before .pre .0 in let b = c .before .before .before .before .before .before .before .before .before .before .before .pre .1 in let n = c .before .before .loop .inv in let gd0 = good-at-turn _ _ _ _ _ _ _ _ _ _ a refl in let same = idled-same _ _ (c .before .before .before .before .before .before .before .before .before .before .before .args .g) _ _ (c .before .before .before .in-phase .result) (c .before .before .before .in-phase .ensures) gd0 (b .idle) in long-turned _ _ _ _ _ _ _ _ _ a (turned-from _ _ _ _ _ _ _ _ _ _ same _ _ _ (n .0)) .bytes
+same-length-8 c =
+    let c10 = c .before .before .before .before .before .before .before .before .before .before in
+    let a = c10 .before .pre .0 in
+    let b = c10 .before .pre .1 in
+    let n = c .before .before .loop .inv in
+    let gd0 = good-at-turn _ _ _ _ _ _ _ _ _ _ a refl in
+    let same = idled-same _ _ (c10 .before .args .g) _ _ (c .before .before .before .in-phase .result) (c .before .before .before
+    .in-phase .ensures) gd0 (b .idle) in
+    long-turned _ _ _ _ _ _ _ _ _ a (turned-from _ _ _ _ _ _ _ _ _ _ same _ _ _ (n .0)) .bytes
 
 same-length-9 : tie.Need-same-length-9 Inv-loop μ-loop
-same-length-9 c = let a = c .before .before .before .before .before .before .before .before .before .before .before .pre .0 in let b = c .before .before .before .before .before .before .before .before .before .before .before .pre .1 in let n = c .before .before .loop .inv in let gd0 = good-at-turn _ _ _ _ _ _ _ _ _ _ a refl in let same = idled-same _ _ (c .before .before .before .before .before .before .before .before .before .before .before .args .g) _ _ (c .before .before .before .in-phase .result) (c .before .before .before .in-phase .ensures) gd0 (b .idle) in long-turned _ _ _ _ _ _ _ _ _ a (turned-from _ _ _ _ _ _ _ _ _ _ same _ _ _ (n .0)) .words
+same-length-9 c =
+    let c10 = c .before .before .before .before .before .before .before .before .before .before in
+    let a = c10 .before .pre .0 in
+    let b = c10 .before .pre .1 in
+    let n = c .before .before .loop .inv in
+    let gd0 = good-at-turn _ _ _ _ _ _ _ _ _ _ a refl in
+    let same = idled-same _ _ (c10 .before .args .g) _ _ (c .before .before .before .in-phase .result) (c .before .before .before
+    .in-phase .ensures) gd0 (b .idle) in
+    long-turned _ _ _ _ _ _ _ _ _ a (turned-from _ _ _ _ _ _ _ _ _ _ same _ _ _ (n .0)) .words
 
 returns-3 : tie.Need-returns-3 Inv-loop μ-loop
-returns-3 c = let a = c .before .before .before .before .before .before .before .before .before .before .before .pre .0 in let b = c .before .before .before .before .before .before .before .before .before .before .before .pre .1 in let n = c .before .before .loop .inv in let gd0 = good-at-turn _ _ _ _ _ _ _ _ _ _ a refl in let same = idled-same _ _ (c .before .before .before .before .before .before .before .before .before .before .before .args .g) _ _ (c .before .before .before .in-phase .result) (c .before .before .before .in-phase .ensures) gd0 (b .idle) in (turned-from _ _ _ _ _ _ _ _ _ _ same _ _ _ (n .0), omega (arith, b .more, c .if1 .left))
+returns-3 c =
+    let c10 = c .before .before .before .before .before .before .before .before .before .before in
+    let a = c10 .before .pre .0 in
+    let b = c10 .before .pre .1 in
+    let n = c .before .before .loop .inv in
+    let gd0 = good-at-turn _ _ _ _ _ _ _ _ _ _ a refl in
+    let same = idled-same _ _ (c10 .before .args .g) _ _ (c .before .before .before .in-phase .result) (c .before .before .before
+    .in-phase .ensures) gd0 (b .idle) in
+    (turned-from _ _ _ _ _ _ _ _ _ _ same _ _ _ (n .0), omega (arith, b .more, c .if1 .left))
 
 pub ready-turn-spec : {M : Type 1} → statement M
 ready-turn-spec =

@@ -2,9 +2,6 @@
 use borrow.Author.Needs.{needs}
 use Rattle.trm_turns.proofs.inner.serial.after_serial.Statement.{statement}
 use Rattle.trm_turns.proofs.inner.serial.after_serial.Tie as tie
-use Rattle.trm_turns.proofs.inner.serial.after_serial.Reads as reads
-use Rattle.trm_turns.proofs.inner.serial.after_serial.Lts as lts
-use Rattle.trm_turns.proofs.inner.serial.with_serial.Reads as with-serial-reads
 
 with-serial-requires : tie.Need-with-serial-requires
 with-serial-requires c κs = search needs

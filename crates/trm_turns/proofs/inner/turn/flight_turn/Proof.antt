@@ -2,28 +2,55 @@
 use borrow.Author.Needs.{needs}
 use Rattle.trm_turns.proofs.inner.turn.flight_turn.Statement.{statement}
 use Rattle.trm_turns.proofs.inner.turn.flight_turn.Tie as tie
-use Rattle.trm_turns.proofs.inner.turn.flight_turn.Reads as reads
-use Rattle.trm_turns.proofs.inner.turn.flight_turn.Lts as lts
-use Rattle.trm_turns.proofs.inner.turn.fill_turn.Reads as fill-turn-reads
-use Rattle.trm_turns.proofs.inner.turn.last_turn.Reads as last-turn-reads
-use Rattle.trm_turns.proofs.inner.turn.step_turn.Reads as step-turn-reads
-use Rattle.trm_turns.proofs.inner.turn.wait_turn.Reads as wait-turn-reads
-use Rattle.trm_turns.proofs.inner.turn.write_turn.Reads as write-turn-reads
 
 step-turn-requires : tie.Need-step-turn-requires
-step-turn-requires c κs = let a = c .before .before .before .before .before .before .before .before .before .before .before .before .before .before .before .pre .0 in let wd = c .before .before .before .before .before .before .before .before .before .before .before .before .before .before .before .pre .1 in let ba = c .before .before .before .before .before .before .before .before .before .before .before .before .before .before .before .pre .2 in let mo = c .before .before .before .before .before .before .before .before .before .before .before .before .before .before .before .pre .3 in let fr = c .before .before .before .before .before .before .before .before .before .before .before .before .before .before .before .pre .4 in let p0 = c .before .before .before .before .before .before .before .before .before .before .before .before .before .before .before .pre .5 in (a, wd, c .before .before .before .before .before .before .before .before .match .keys1, mo, fr, ba)
+step-turn-requires c κs =
+    let c10 = c .before .before .before .before .before .before .before .before .before .before in
+    let a = c10 .before .before .before .before .before .pre .0 in
+    let wd = c10 .before .before .before .before .before .pre .1 in
+    let ba = c10 .before .before .before .before .before .pre .2 in
+    let mo = c10 .before .before .before .before .before .pre .3 in
+    let fr = c10 .before .before .before .before .before .pre .4 in
+    (a, wd, c .before .before .before .before .before .before .before .before .match .keys1, mo, fr, ba)
 
 write-turn-requires : tie.Need-write-turn-requires
-write-turn-requires c κs = let a = c .before .before .before .before .before .before .before .before .before .before .before .before .before .before .before .pre .0 in let wd = c .before .before .before .before .before .before .before .before .before .before .before .before .before .before .before .pre .1 in let ba = c .before .before .before .before .before .before .before .before .before .before .before .before .before .before .before .pre .2 in let mo = c .before .before .before .before .before .before .before .before .before .before .before .before .before .before .before .pre .3 in let fr = c .before .before .before .before .before .before .before .before .before .before .before .before .before .before .before .pre .4 in let p0 = c .before .before .before .before .before .before .before .before .before .before .before .before .before .before .before .pre .5 in (a, wd, c .before .before .before .before .before .before .before .before .match .keys2, mo, fr)
+write-turn-requires c κs =
+    let c10 = c .before .before .before .before .before .before .before .before .before .before in
+    let a = c10 .before .before .before .before .before .pre .0 in
+    let wd = c10 .before .before .before .before .before .pre .1 in
+    let mo = c10 .before .before .before .before .before .pre .3 in
+    let fr = c10 .before .before .before .before .before .pre .4 in
+    (a, wd, c .before .before .before .before .before .before .before .before .match .keys2, mo, fr)
 
 fill-turn-requires : tie.Need-fill-turn-requires
-fill-turn-requires c κs = let a = c .before .before .before .before .before .before .before .before .before .before .before .before .before .before .before .pre .0 in let wd = c .before .before .before .before .before .before .before .before .before .before .before .before .before .before .before .pre .1 in let ba = c .before .before .before .before .before .before .before .before .before .before .before .before .before .before .before .pre .2 in let mo = c .before .before .before .before .before .before .before .before .before .before .before .before .before .before .before .pre .3 in let fr = c .before .before .before .before .before .before .before .before .before .before .before .before .before .before .before .pre .4 in let p0 = c .before .before .before .before .before .before .before .before .before .before .before .before .before .before .before .pre .5 in (a, wd, c .before .before .before .before .before .before .before .before .match .keys3, mo, fr)
+fill-turn-requires c κs =
+    let c10 = c .before .before .before .before .before .before .before .before .before .before in
+    let a = c10 .before .before .before .before .before .pre .0 in
+    let wd = c10 .before .before .before .before .before .pre .1 in
+    let mo = c10 .before .before .before .before .before .pre .3 in
+    let fr = c10 .before .before .before .before .before .pre .4 in
+    (a, wd, c .before .before .before .before .before .before .before .before .match .keys3, mo, fr)
 
 wait-turn-requires : tie.Need-wait-turn-requires
-wait-turn-requires c κs = let a = c .before .before .before .before .before .before .before .before .before .before .before .before .before .before .before .pre .0 in let wd = c .before .before .before .before .before .before .before .before .before .before .before .before .before .before .before .pre .1 in let ba = c .before .before .before .before .before .before .before .before .before .before .before .before .before .before .before .pre .2 in let mo = c .before .before .before .before .before .before .before .before .before .before .before .before .before .before .before .pre .3 in let fr = c .before .before .before .before .before .before .before .before .before .before .before .before .before .before .before .pre .4 in let p0 = c .before .before .before .before .before .before .before .before .before .before .before .before .before .before .before .pre .5 in (a, wd, c .before .before .before .before .before .before .before .before .match .keys4, mo, fr, ba)
+wait-turn-requires c κs =
+    let c10 = c .before .before .before .before .before .before .before .before .before .before in
+    let a = c10 .before .before .before .before .before .pre .0 in
+    let wd = c10 .before .before .before .before .before .pre .1 in
+    let ba = c10 .before .before .before .before .before .pre .2 in
+    let mo = c10 .before .before .before .before .before .pre .3 in
+    let fr = c10 .before .before .before .before .before .pre .4 in
+    (a, wd, c .before .before .before .before .before .before .before .before .match .keys4, mo, fr, ba)
 
 last-turn-requires : tie.Need-last-turn-requires
-last-turn-requires c κs = let a = c .before .before .before .before .before .before .before .before .before .before .before .before .before .before .before .pre .0 in let wd = c .before .before .before .before .before .before .before .before .before .before .before .before .before .before .before .pre .1 in let ba = c .before .before .before .before .before .before .before .before .before .before .before .before .before .before .before .pre .2 in let mo = c .before .before .before .before .before .before .before .before .before .before .before .before .before .before .before .pre .3 in let fr = c .before .before .before .before .before .before .before .before .before .before .before .before .before .before .before .pre .4 in let p0 = c .before .before .before .before .before .before .before .before .before .before .before .before .before .before .before .pre .5 in let r = c .before .before .before .before .before .before .before .before .match .rest in (a, wd, mo, fr, p0, r .0 .0 .0 .1, r .0 .0 .1, r .0 .1, r .1)
+last-turn-requires c κs =
+    let c10 = c .before .before .before .before .before .before .before .before .before .before in
+    let a = c10 .before .before .before .before .before .pre .0 in
+    let wd = c10 .before .before .before .before .before .pre .1 in
+    let mo = c10 .before .before .before .before .before .pre .3 in
+    let fr = c10 .before .before .before .before .before .pre .4 in
+    let p0 = c10 .before .before .before .before .before .pre .5 in
+    let r = c .before .before .before .before .before .before .before .before .match .rest in
+    (a, wd, mo, fr, p0, r .0 .0 .0 .1, r .0 .0 .1, r .0 .1, r .1)
 
 same-length : tie.Need-same-length
 same-length c = search needs

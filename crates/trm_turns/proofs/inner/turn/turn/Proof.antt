@@ -1,32 +1,12 @@
 -- The proof of trm_turns::inner::turn::turn.
 use native.Mathlib.Omega.{arith}
-use native.Mathlib.Nat.{mod-lt}
-use Prim.Native.Nat.{ℕ, _+_, _*_, _-_, _≤_, _<_}
-use mathlib.Core.Path.{_≡_, refl, sym, ap, _∙_}
-use lib.ListN.{length, getD}
-use borrow.Author.Tests.{not-true, not-false}
-use Rattle.trm_cache.specs.Cache.{cache}
-use Rattle.trm_reference.specs.Interrupt.{stalled}
-use Rattle.trm_plan.proofs.Laws.Facts.{facts}
-use Rattle.trm_clock.proofs.Laws.Worked.{ends-worked}
-use Rattle.trm_clock.proofs.Laws.Words.{shows, other-made}
-use Rattle.trm_turns.proofs.Laws.Here.{ready-here, begun-here, flight-here, interrupt-here}
-use Rattle.trm_turns.proofs.Laws.Ahead.{past-free}
-use Rattle.trm_turns.proofs.Laws.Next.{answered, quiet-answered, onward-answered, room, few-done, due-true, last-here, entered, ended}
-use Rattle.trm_turns.proofs.Laws.Next.{seen, phase, word-next, good-next, under-at, good-under, good-at-turn, long-turned}
+use mathlib.Core.Path.{refl, sym, _∙_}
+use Rattle.trm_turns.proofs.Laws.Here.{interrupt-here}
+use Rattle.trm_turns.proofs.Laws.Next.{quiet-answered, few-done}
+use Rattle.trm_turns.proofs.Laws.Next.{under-at, good-at-turn}
 use borrow.Author.Needs.{needs}
 use Rattle.trm_turns.proofs.inner.turn.turn.Statement.{statement}
 use Rattle.trm_turns.proofs.inner.turn.turn.Tie as tie
-use Rattle.trm_turns.proofs.inner.turn.turn.Reads as reads
-use Rattle.trm_turns.proofs.inner.turn.turn.Lts as lts
-use Rattle.trm_reading.proofs.inner.reading.word_at.Reads as word-at-reads
-use Rattle.trm_steps.proofs.inner.interrupt.interrupt_chosen.Reads as interrupt-chosen-reads
-use Rattle.trm_steps.proofs.inner.interrupt.is_stalled.Reads as is-stalled-reads
-use Rattle.trm_steps.proofs.inner.interrupt.take_interrupt.Reads as take-interrupt-reads
-use Rattle.trm_turns.proofs.inner.ahead.held_ahead.Reads as held-ahead-reads
-use Rattle.trm_turns.proofs.inner.going.quietly.Reads as quietly-reads
-use Rattle.trm_turns.proofs.inner.ready.ready_turn.Reads as ready-turn-reads
-use Rattle.trm_turns.proofs.inner.turn.flight_turn.Reads as flight-turn-reads
 
 shared-slice-read-line : tie.Need-shared-slice-read-line
 shared-slice-read-line c = c .before .before .before .before .before .before .before .pre .2
@@ -35,19 +15,42 @@ is-stalled-requires : tie.Need-is-stalled-requires
 is-stalled-requires c κs = search needs
 
 held-ahead-requires : tie.Need-held-ahead-requires
-held-ahead-requires c κs = let a = c .before .before .before .before .before .before .before .before .before .before .before .before .before .before .before .pre .0 in let ba = c .before .before .before .before .before .before .before .before .before .before .before .before .before .before .before .pre .1 in let mo = c .before .before .before .before .before .before .before .before .before .before .before .before .before .before .before .pre .2 in (record { word = _; under = under-at _ _ _ _ _ _ _ a refl }, mo, sym (c .before .before .before .before .before .before .before .is-stalled .ensures) ∙ c .before .before .before .before .before .before .if1 .taken)
+held-ahead-requires c κs =
+    let c10 = c .before .before .before .before .before .before .before .before .before .before in
+    let a = c10 .before .before .before .before .before .pre .0 in
+    let mo = c10 .before .before .before .before .before .pre .2 in (
+      record { word = _; under = under-at _ _ _ _ _ _ _ a refl },
+      mo,
+      sym (c .before .before .before .before .before .before .before
+          .is-stalled .ensures) ∙ c .before .before .before .before .before .before .if1 .taken,
+    )
 
 same-length : tie.Need-same-length
 same-length c = search needs
 
 returns : tie.Need-returns
-returns c = let a = c .before .before .before .before .before .before .before .before .before .before .before .before .before .before .before .before .pre .0 in let ba = c .before .before .before .before .before .before .before .before .before .before .before .before .before .before .before .before .pre .1 in let mo = c .before .before .before .before .before .before .before .before .before .before .before .before .before .before .before .before .pre .2 in (λ x₀ k. c .held-ahead .ensures .0 _ _ _ _ _ x₀ refl k, c .held-ahead .ensures .1)
+returns c =
+    (λ x₀ k. c .held-ahead .ensures .0 _ _ _ _ _ x₀ refl k, c .held-ahead .ensures .1)
 
 word-at-requires : tie.Need-word-at-requires
 word-at-requires c κs = search needs
 
 flight-turn-requires : tie.Need-flight-turn-requires
-flight-turn-requires c κs = let a = c .before .before .before .before .before .before .before .before .before .before .before .before .before .before .before .before .before .before .before .before .before .pre .0 in let ba = c .before .before .before .before .before .before .before .before .before .before .before .before .before .before .before .before .before .before .before .before .before .pre .1 in let mo = c .before .before .before .before .before .before .before .before .before .before .before .before .before .before .before .before .before .before .before .before .before .pre .2 in let fr = sym (c .before .before .before .before .before .before .before .before .before .before .before .before .before .is-stalled .ensures) ∙ c .before .before .before .before .before .before .before .before .before .before .before .before .if1 .left in (a, c .before .before .before .before .before .before .before .before .word-at .ensures, ba, mo, fr, c .before .before .before .before .before .before .before .before .before .if2 .taken)
+flight-turn-requires c κs =
+    let c10 = c .before .before .before .before .before .before .before .before .before .before in
+    let c20 = c10 .before .before .before .before .before .before .before .before .before .before in
+    let a = c20 .before .pre .0 in
+    let ba = c20 .before .pre .1 in
+    let mo = c20 .before .pre .2 in
+    let fr = sym (c10 .before .before .before .is-stalled .ensures) ∙ c10 .before .before .if1 .left in (
+      a,
+      c .before .before .before .before .before .before .before .before .word-at .ensures,
+      ba,
+      mo,
+      fr,
+      c .before .before .before
+          .before .before .before .before .before .before .if2 .taken,
+    )
 
 same-length-2 : tie.Need-same-length-2
 same-length-2 c = search needs
@@ -65,16 +68,50 @@ interrupt-chosen-requires : tie.Need-interrupt-chosen-requires
 interrupt-chosen-requires c κs = search needs
 
 take-interrupt-requires : tie.Need-take-interrupt-requires
-take-interrupt-requires c κs = let a = c .before .before .before .before .before .before .before .before .before .before .before .before .before .before .before .pre .0 in let ba = c .before .before .before .before .before .before .before .before .before .before .before .before .before .before .before .pre .1 in let mo = c .before .before .before .before .before .before .before .before .before .before .before .before .before .before .before .pre .2 in let gd = good-at-turn _ _ _ _ _ _ _ _ _ _ a refl in (gd .widths, gd .counts)
+take-interrupt-requires c κs =
+    let c10 = c .before .before .before .before .before .before .before .before .before .before in
+    let a = c10 .before .before .before .before .before .pre .0 in
+    let gd = good-at-turn _ _ _ _ _ _ _ _ _ _ a refl in
+    (gd .widths, gd .counts)
 
 quietly-requires : tie.Need-quietly-requires
-quietly-requires c κs = let a = c .before .before .before .before .before .before .before .before .before .before .before .before .before .before .before .before .pre .0 in let ba = c .before .before .before .before .before .before .before .before .before .before .before .before .before .before .before .before .pre .1 in let mo = c .before .before .before .before .before .before .before .before .before .before .before .before .before .before .before .before .pre .2 in let k = few-done _ _ _ _ _ _ _ _ _ _ (a .so) mo in (k .0, k .1, omega arith)
+quietly-requires c κs =
+    let c10 = c .before .before .before .before .before .before .before .before .before .before in
+    let a = c10 .before .before .before .before .before .before .pre .0 in
+    let mo = c10 .before .before .before .before .before .before .pre .2 in
+    let k = few-done _ _ _ _ _ _ _ _ _ _ (a .so) mo in
+    (k .0, k .1, omega arith)
 
 returns-3 : tie.Need-returns-3
-returns-3 c = let a = c .before .before .before .before .before .before .before .before .before .before .before .before .before .before .before .before .before .pre .0 in let ba = c .before .before .before .before .before .before .before .before .before .before .before .before .before .before .before .before .before .pre .1 in let mo = c .before .before .before .before .before .before .before .before .before .before .before .before .before .before .before .before .before .pre .2 in let fr = sym (c .before .before .before .before .before .before .before .before .before .is-stalled .ensures) ∙ c .before .before .before .before .before .before .before .before .if1 .left in (λ x₀ k. quiet-answered _ _ _ x₀ _ _ _ _ _ _ k mo _ 0 _ _ _ (interrupt-here _ _ _ _ _ _ fr (c .before .before .before .before .before .if2 .left) _ (c .before .before .before .before .interrupt-chosen .ensures .0) (c .before .before .before .if3 .taken) _ _ (c .before .take-interrupt .ensures .0) (c .before .take-interrupt .ensures .1)) _ (c .quietly .ensures), rw (c .quietly .ensures) (omega arith))
+returns-3 c =
+    let c10 = c .before .before .before .before .before .before .before .before .before .before in
+    let mo = c10 .before .before .before .before .before .before .before .pre .2 in
+    let fr = sym (c .before .before .before .before .before .before .before .before .before .is-stalled .ensures) ∙ c .before
+    .before .before .before .before .before .before .before .if1 .left in (
+      λ x₀ k. quiet-answered _ _ _ x₀ _ _ _ _ _ _ k mo _ 0 _ _ _ (interrupt-here _ _ _ _ _ _ fr (c .before .before .before .before
+          .before .if2 .left) _ (c .before .before .before .before .interrupt-chosen .ensures .0) (c .before .before .before .if3 .taken)
+          _ _ (c .before .take-interrupt .ensures .0) (c .before .take-interrupt .ensures .1)) _ (c .quietly .ensures),
+      rw (c .quietly
+          .ensures) (omega arith),
+    )
 
 ready-turn-requires : tie.Need-ready-turn-requires
-ready-turn-requires c κs = let a = c .before .before .before .before .before .before .before .before .before .before .before .before .before .before .before .before .before .before .before .before .before .before .pre .0 in let ba = c .before .before .before .before .before .before .before .before .before .before .before .before .before .before .before .before .before .before .before .before .before .before .pre .1 in let mo = c .before .before .before .before .before .before .before .before .before .before .before .before .before .before .before .before .before .before .before .before .before .before .pre .2 in let fr = sym (c .before .before .before .before .before .before .before .before .before .before .before .before .before .before .is-stalled .ensures) ∙ c .before .before .before .before .before .before .before .before .before .before .before .before .before .if1 .left in (a, record { more = mo; unheld = fr; none = sym (c .before .before .before .before .before .before .before .before .before .interrupt-chosen .ensures .0) ∙ c .before .before .before .before .before .before .before .before .if3 .left; idle = c .before .before .before .before .before .before .before .before .before .before .if2 .left })
+ready-turn-requires c κs =
+    let c10 = c .before .before .before .before .before .before .before .before .before .before in
+    let c20 = c10 .before .before .before .before .before .before .before .before .before .before in
+    let a = c20 .before .before .pre .0 in
+    let mo = c20 .before .before .pre .2 in
+    let fr = sym (c10 .before .before .before .before .is-stalled .ensures) ∙ c10 .before .before .before .if1 .left in (
+      a,
+      record {
+        more = mo;
+        unheld = fr;
+        none = sym (c .before .before .before .before .before .before .before .before .before
+            .interrupt-chosen .ensures .0) ∙ c .before .before .before .before .before .before .before .before .if3 .left;
+        idle = c10 .if2
+            .left;
+      },
+    )
 
 same-length-5 : tie.Need-same-length-5
 same-length-5 c = search needs
