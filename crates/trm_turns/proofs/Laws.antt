@@ -1,9 +1,4 @@
--- The laws of a run in turns; one theme to a file.
+-- The laws of turns.
 -- Idea: functions' proofs cite these and unfold nothing of the clock.
 -- Assumes nothing.
-pub mod Adds
-pub mod Free
-pub mod Reached
-pub mod Here
-pub mod Ahead
 pub mod Next

@@ -1,8 +1,5 @@
-// The turns of a run: `going` is where it stands; `ahead` and `serial` go on in a phase, `ready` goes from word to word.
+// `ready` goes from word to word; `turn` is one turn of a run.
 // `g` is where the run stands, by value; the arrays are lent in the order regs, full, dirty, block, words; `w` is the word at PC.
 // A function here may have a `requires`. Each has one caller or is small, so that all of it is inlined.
-pub mod ahead;
-pub mod going;
 pub mod ready;
-pub mod serial;
 pub mod turn;

@@ -18,10 +18,10 @@ ghost use Rattle.trm_steps.specs.Steps.{Multiplies, Divides, multiplied, divide
 ghost use Rattle.trm_engine.specs.Machine.{recordOf, withRunning, ticked, ranTo};
 use crate::inner::clear;
 use crate::machine::Machine;
+use trm_ahead::inner::going::Going;
 use trm_reading::inner::reading;
 use trm_steps::inner::interrupt;
 use trm_steps::inner::steps;
-use trm_turns::inner::going::Going;
 
 // A record after one clock, with the clock's answer.
 pub struct Ticked {

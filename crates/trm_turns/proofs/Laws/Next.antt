@@ -36,12 +36,12 @@ use Rattle.trm_clock.specs.declared.inner.outcome.Clocked.{Clocked}
 use Rattle.trm_clock.specs.Made.{made}
 use Rattle.trm_clock.proofs.Laws.Worked.{ends-worked}
 use Rattle.trm_clock.proofs.Laws.Words.{shows}
-use Rattle.trm_turns.specs.declared.inner.going.Going.{Going}
-use Rattle.trm_turns.specs.Reached.{Point, point, Reached, Room, Begins, At, Turned, Under, Quietly}
-use Rattle.trm_turns.proofs.Laws.Adds.{clock-adds}
-use Rattle.trm_turns.proofs.Laws.Reached.{step, step-quiet, byte-free, word-free}
-use Rattle.trm_turns.proofs.Laws.Here.{flight-here, begun-here, good-here}
-use Rattle.trm_turns.proofs.Laws.Ahead.{onward}
+use Rattle.trm_ahead.specs.declared.inner.going.Going.{Going}
+use Rattle.trm_ahead.specs.Reached.{Point, point, Reached, Room, Begins, At, Turned, Under, Quietly}
+use Rattle.trm_ahead.proofs.Laws.Adds.{clock-adds}
+use Rattle.trm_ahead.proofs.Laws.Reached.{step, step-quiet, byte-free, word-free}
+use Rattle.trm_ahead.proofs.Laws.Here.{flight-here, begun-here, good-here}
+use Rattle.trm_ahead.proofs.Laws.Ahead.{onward}
 
 pub due-true : (i n : ℕ) (t : Bool) (r : Bool) → r ≡ (ltb i n && not t) → r ≡ true → (i < n) × (t ≡ false)
 due-true i n true r e q = both (ltb i n) false (λ _ z. clash z) (sym e ∙ q)

@@ -5,8 +5,8 @@ use mathlib.Core.Path.{sym, _∙_}
 use lib.ListN.{length}
 use Rattle.trm_cache.specs.Cache.{cache}
 use Rattle.trm_core.specs.Record.{whole}
-use Rattle.trm_turns.specs.Reached.{point, Reached}
-use Rattle.trm_turns.proofs.Laws.Reached.{reached-none, reached-end}
+use Rattle.trm_ahead.specs.Reached.{point, Reached}
+use Rattle.trm_ahead.proofs.Laws.Reached.{reached-none, reached-end}
 use Rattle.trm_engine.proofs.Laws.Accepted.{run-passed}
 use Rattle.trm_engine.proofs.Laws.Shape.{shaped-by-type}
 use borrow.Author.Needs.{needs}

@@ -1,11 +1,15 @@
 -- The proof of trm_turns::inner::ready::begin.
+use Rattle.trm_core.specs.Record.{gathered}
+use Rattle.trm_ahead.specs.Reached.{point}
 use Prim.Native.Nat.{_/_, _^_}
 use Rattle.trm_plan.proofs.Laws.Kinds.{kind-call}
 use Rattle.trm_plan.proofs.Laws.Plans.{first-second}
 use native.Mathlib.Omega.{arith}
 use native.Mathlib.Nat.{mod-lt}
+use lib.ListN.{length, getD}
+use Rattle.trm_cache.specs.Cache.{cache}
 use Rattle.trm_plan.proofs.Laws.Facts.{facts}
-use Rattle.trm_turns.proofs.Laws.Here.{ready-here}
+use Rattle.trm_ahead.proofs.Laws.Here.{ready-here}
 use Rattle.trm_turns.proofs.Laws.Next.{answered, room, few-done, entered}
 use Rattle.trm_turns.proofs.Laws.Next.{under-at, good-under}
 use borrow.Author.Needs.{needs}
@@ -29,21 +33,47 @@ shared-slice-read-first-control c =
 first-control-requires : tie.Need-first-control-requires
 first-control-requires c κs =
     let c10 = c .before .before .before .before .before .before .before .before .before .before in
+    let st = c10 .before .before .before .before .args in
+    let p = st .program .now in
+    let ls = st .lines .now in
+    let is = st .inputs .now in
+    let g = st .g in
+    let rs = st .regs .now in
+    let ca = cache (st .full .now) (st .dirty .now) (st .block .now) (st .words .now) in
+    let s = st .store .now in
+    let bs = st .bytes .now in
+    let ws = st .outs .now in
+    let w = st .w in
     let a = c10 .before .before .before .before .pre .0 in
     let wd = c10 .before .before .before .before .pre .1 in
     let b = c10 .before .before .before .before .pre .2 in
-    let u = under-at _ _ _ _ _ _ _ a wd in
-    let gd = good-under _ _ _ _ _ _ u in
+    let u = under-at p ls is w (point g rs ca s) bs ws a wd in
+    let gd = good-under ls w g rs ca s u in
     (gd, b .idle, c .before .before .before .before .before .before .before .match .keys1)
 
 went-requires : tie.Need-went-requires
 went-requires c κs =
     let c10 = c .before .before .before .before .before .before .before .before .before .before in
+    let st = c10 .before .before .before .before .before .before .before .before .before .args in
+    let p = st .program .now in
+    let ls = st .lines .now in
+    let is = st .inputs .now in
+    let g = st .g in
+    let rs = st .regs .now in
+    let ca = cache (st .full .now) (st .dirty .now) (st .block .now) (st .words .now) in
+    let s = st .store .now in
+    let bs = st .bytes .now in
+    let ws = st .outs .now in
+    let w = st .w in
     let a = c10 .before .before .before .before .before .before .before .before .before .pre .0 in
     let wd = c10 .before .before .before .before .before .before .before .before .before .pre .1 in
     let b = c10 .before .before .before .before .before .before .before .before .before .pre .2 in
-    room _ _ _ _ _ _ _ _ _ _ (a .so) (b .more) _ _ _ _ (ready-here _ _ _ _ _ _ _ wd (b .unheld) (b .idle) (b .none) _ (c .before
-    .before .before .before .first-control .ensures))
+    room p ls is (a .from) g rs ca s bs ws (a .so) (b .more) _ _ _ _ (ready-here p (g .scalars) rs ca s (record {
+      line = getD ls (g
+          .at) 0;
+      input = getD is (g .at) 0;
+    }) w wd (b .unheld) (b .idle) (b .none) _ (c .before .before .before .before .first-control
+    .ensures))
 
 load-requires : tie.Need-load-requires
 load-requires c κs =
@@ -70,39 +100,87 @@ shared-slice-read-first-store c =
 first-store-requires : tie.Need-first-store-requires
 first-store-requires c κs =
     let c10 = c .before .before .before .before .before .before .before .before .before .before in
+    let st = c10 .before .before .before .before .args in
+    let p = st .program .now in
+    let ls = st .lines .now in
+    let is = st .inputs .now in
+    let g = st .g in
+    let rs = st .regs .now in
+    let ca = cache (st .full .now) (st .dirty .now) (st .block .now) (st .words .now) in
+    let s = st .store .now in
+    let bs = st .bytes .now in
+    let ws = st .outs .now in
+    let w = st .w in
     let a = c10 .before .before .before .before .pre .0 in
     let wd = c10 .before .before .before .before .pre .1 in
     let b = c10 .before .before .before .before .pre .2 in
-    let u = under-at _ _ _ _ _ _ _ a wd in
-    let gd = good-under _ _ _ _ _ _ u in
+    let u = under-at p ls is w (point g rs ca s) bs ws a wd in
+    let gd = good-under ls w g rs ca s u in
     (gd, b .idle, c .before .before .before .before .before .before .before .match .keys3)
 
 went-requires-2 : tie.Need-went-requires-2
 went-requires-2 c κs =
     let c10 = c .before .before .before .before .before .before .before .before .before .before in
+    let st = c10 .before .before .before .before .before .before .before .before .before .args in
+    let p = st .program .now in
+    let ls = st .lines .now in
+    let is = st .inputs .now in
+    let g = st .g in
+    let rs = st .regs .now in
+    let ca = cache (st .full .now) (st .dirty .now) (st .block .now) (st .words .now) in
+    let s = st .store .now in
+    let bs = st .bytes .now in
+    let ws = st .outs .now in
+    let w = st .w in
     let a = c10 .before .before .before .before .before .before .before .before .before .pre .0 in
     let wd = c10 .before .before .before .before .before .before .before .before .before .pre .1 in
     let b = c10 .before .before .before .before .before .before .before .before .before .pre .2 in
-    room _ _ _ _ _ _ _ _ _ _ (a .so) (b .more) _ _ _ _ (ready-here _ _ _ _ _ _ _ wd (b .unheld) (b .idle) (b .none) _ (c .before
-    .before .before .before .first-store .ensures))
+    room p ls is (a .from) g rs ca s bs ws (a .so) (b .more) _ _ _ _ (ready-here p (g .scalars) rs ca s (record {
+      line = getD ls (g
+          .at) 0;
+      input = getD is (g .at) 0;
+    }) w wd (b .unheld) (b .idle) (b .none) _ (c .before .before .before .before .first-store
+    .ensures))
 
 branch-requires : tie.Need-branch-requires
 branch-requires c κs =
     let c10 = c .before .before .before .before .before .before .before .before .before .before in
+    let st = c10 .before .before .before .args in
+    let p = st .program .now in
+    let ls = st .lines .now in
+    let is = st .inputs .now in
+    let g = st .g in
+    let rs = st .regs .now in
+    let ca = cache (st .full .now) (st .dirty .now) (st .block .now) (st .words .now) in
+    let s = st .store .now in
+    let bs = st .bytes .now in
+    let ws = st .outs .now in
+    let w = st .w in
     let a = c10 .before .before .before .pre .0 in
     let wd = c10 .before .before .before .pre .1 in
     let b = c10 .before .before .before .pre .2 in
-    let u = under-at _ _ _ _ _ _ _ a wd in
+    let u = under-at p ls is w (point g rs ca s) bs ws a wd in
     (u, b, c .before .before .before .before .before .before .match .keys4)
 
 enters-requires : tie.Need-enters-requires
 enters-requires c κs =
+    let st = c .before .before .before .before .before .before .before .args in
+    let p = st .program .now in
+    let ls = st .lines .now in
+    let is = st .inputs .now in
+    let g = st .g in
+    let rs = st .regs .now in
+    let ca = cache (st .full .now) (st .dirty .now) (st .block .now) (st .words .now) in
+    let s = st .store .now in
+    let bs = st .bytes .now in
+    let ws = st .outs .now in
+    let w = st .w in
     let a = c .before .before .before .before .before .before .before .pre .0 in
     let wd = c .before .before .before .before .before .before .before .pre .1 in
     let b = c .before .before .before .before .before .before .before .pre .2 in
-    let u = under-at _ _ _ _ _ _ _ a wd in
-    let gd = good-under _ _ _ _ _ _ u in
-    (few-done _ _ _ _ _ _ _ _ _ _ (a .so) (b .more) .0, gd .counts)
+    let u = under-at p ls is w (point g rs ca s) bs ws a wd in
+    let gd = good-under ls w g rs ca s u in
+    (few-done p ls is (a .from) g rs ca s bs ws (a .so) (b .more) .0, gd .counts)
 
 mul-first-arithmetic : tie.Need-mul-first-arithmetic
 mul-first-arithmetic c =
@@ -121,12 +199,23 @@ shared-slice-read-first-arithmetic c =
 first-arithmetic-requires : tie.Need-first-arithmetic-requires
 first-arithmetic-requires c κs =
     let c10 = c .before .before .before .before .before .before .before .before .before .before in
+    let st = c10 .before .before .before .before .args in
+    let p = st .program .now in
+    let ls = st .lines .now in
+    let is = st .inputs .now in
+    let g = st .g in
+    let rs = st .regs .now in
+    let ca = cache (st .full .now) (st .dirty .now) (st .block .now) (st .words .now) in
+    let s = st .store .now in
+    let bs = st .bytes .now in
+    let ws = st .outs .now in
+    let w = st .w in
     let a = c10 .before .before .before .before .pre .0 in
     let wd = c10 .before .before .before .before .pre .1 in
     let b = c10 .before .before .before .before .pre .2 in
     let o = c10 .before .before .before .before .pre .3 in
-    let u = under-at _ _ _ _ _ _ _ a wd in
-    let gd = good-under _ _ _ _ _ _ u in (
+    let u = under-at p ls is w (point g rs ca s) bs ws a wd in
+    let gd = good-under ls w g rs ca s u in (
       gd,
       b .idle,
       o,
@@ -146,11 +235,26 @@ first-arithmetic-requires c κs =
 went-requires-3 : tie.Need-went-requires-3
 went-requires-3 c κs =
     let c10 = c .before .before .before .before .before .before .before .before .before .before in
+    let st = c10 .before .before .before .before .before .before .before .before .before .args in
+    let p = st .program .now in
+    let ls = st .lines .now in
+    let is = st .inputs .now in
+    let g = st .g in
+    let rs = st .regs .now in
+    let ca = cache (st .full .now) (st .dirty .now) (st .block .now) (st .words .now) in
+    let s = st .store .now in
+    let bs = st .bytes .now in
+    let ws = st .outs .now in
+    let w = st .w in
     let a = c10 .before .before .before .before .before .before .before .before .before .pre .0 in
     let wd = c10 .before .before .before .before .before .before .before .before .before .pre .1 in
     let b = c10 .before .before .before .before .before .before .before .before .before .pre .2 in
-    room _ _ _ _ _ _ _ _ _ _ (a .so) (b .more) _ _ _ _ (ready-here _ _ _ _ _ _ _ wd (b .unheld) (b .idle) (b .none) _ (c .before
-    .before .before .before .first-arithmetic .ensures))
+    room p ls is (a .from) g rs ca s bs ws (a .so) (b .more) _ _ _ _ (ready-here p (g .scalars) rs ca s (record {
+      line = getD ls (g
+          .at) 0;
+      input = getD is (g .at) 0;
+    }) w wd (b .unheld) (b .idle) (b .none) _ (c .before .before .before .before .first-arithmetic
+    .ensures))
 
 same-length : tie.Need-same-length
 same-length c = search needs
@@ -165,13 +269,28 @@ returns : tie.Need-returns
 returns c =
     let c10 = c .before .before .before .before .before .before .before .before .before .before in
     let c20 = c10 .before .before .before .before .before .before .before .before .before .before in
+    let st = c20 .before .before .before .before .args in
+    let p = st .program .now in
+    let ls = st .lines .now in
+    let is = st .inputs .now in
+    let g = st .g in
+    let rs = st .regs .now in
+    let ca = cache (st .full .now) (st .dirty .now) (st .block .now) (st .words .now) in
+    let s = st .store .now in
+    let bs = st .bytes .now in
+    let ws = st .outs .now in
+    let w = st .w in
     let wd = c20 .before .before .before .before .pre .1 in
     let b = c20 .before .before .before .before .pre .2 in (
-      λ x₀ k. answered _ _ _ x₀ _ _ _ _ _ _ k (b .more) _ _ _ _ (ready-here _ _ _ _ _ _ _ wd (b .unheld) (b .idle) (b .none) _ (c
-          .before .before .before .before .before .before .before .before .before .first-control .ensures)) _ _ _ (c .before .before
-          .before .before .went .ensures .0) (c .before .before .before .before .went .ensures .1) (c .before .before .before .before
-          .went .ensures .2),
-      rw (c .before .before .before .before .went .ensures .0) (omega arith),
+      λ x₀ k. answered p ls is x₀ g rs ca s bs ws k (b .more) _ _ _ _ (ready-here p (g .scalars) rs ca s (record {
+        line = getD ls (g
+            .at) 0;
+        input = getD is (g .at) 0;
+      }) w wd (b .unheld) (b .idle) (b .none) _ (c .before .before .before .before .before .before
+          .before .before .before .first-control .ensures)) _ _ _ (c .before .before .before .before .went .ensures .0) (c .before .before
+          .before .before .went .ensures .1) (c .before .before .before .before .went .ensures .2),
+      rw (c .before .before .before .before
+          .went .ensures .0) (omega arith),
     )
 
 same-length-4 : tie.Need-same-length-4
@@ -199,13 +318,28 @@ returns-3 : tie.Need-returns-3
 returns-3 c =
     let c10 = c .before .before .before .before .before .before .before .before .before .before in
     let c20 = c10 .before .before .before .before .before .before .before .before .before .before in
+    let st = c20 .before .before .before .before .args in
+    let p = st .program .now in
+    let ls = st .lines .now in
+    let is = st .inputs .now in
+    let g = st .g in
+    let rs = st .regs .now in
+    let ca = cache (st .full .now) (st .dirty .now) (st .block .now) (st .words .now) in
+    let s = st .store .now in
+    let bs = st .bytes .now in
+    let ws = st .outs .now in
+    let w = st .w in
     let wd = c20 .before .before .before .before .pre .1 in
     let b = c20 .before .before .before .before .pre .2 in (
-      λ x₀ k. answered _ _ _ x₀ _ _ _ _ _ _ k (b .more) _ _ _ _ (ready-here _ _ _ _ _ _ _ wd (b .unheld) (b .idle) (b .none) _ (c
-          .before .before .before .before .before .before .before .before .before .first-store .ensures)) _ _ _ (c .before .before .before
-          .before .went2 .ensures .0) (c .before .before .before .before .went2 .ensures .1) (c .before .before .before .before .went2
-          .ensures .2),
-      rw (c .before .before .before .before .went2 .ensures .0) (omega arith),
+      λ x₀ k. answered p ls is x₀ g rs ca s bs ws k (b .more) _ _ _ _ (ready-here p (g .scalars) rs ca s (record {
+        line = getD ls (g
+            .at) 0;
+        input = getD is (g .at) 0;
+      }) w wd (b .unheld) (b .idle) (b .none) _ (c .before .before .before .before .before .before
+          .before .before .before .first-store .ensures)) _ _ _ (c .before .before .before .before .went2 .ensures .0) (c .before .before
+          .before .before .went2 .ensures .1) (c .before .before .before .before .went2 .ensures .2),
+      rw (c .before .before .before
+          .before .went2 .ensures .0) (omega arith),
     )
 
 same-length-10 : tie.Need-same-length-10
@@ -219,15 +353,26 @@ returns-4 c =
 
 returns-5 : tie.Need-returns-5
 returns-5 c =
+    let st = c .before .before .before .before .before .before .before .before .args in
+    let p = st .program .now in
+    let ls = st .lines .now in
+    let is = st .inputs .now in
+    let g = st .g in
+    let rs = st .regs .now in
+    let ca = cache (st .full .now) (st .dirty .now) (st .block .now) (st .words .now) in
+    let s = st .store .now in
+    let bs = st .bytes .now in
+    let ws = st .outs .now in
+    let w = st .w in
     let a = c .before .before .before .before .before .before .before .before .pre .0 in
     let wd = c .before .before .before .before .before .before .before .before .pre .1 in
     let b = c .before .before .before .before .before .before .before .before .pre .2 in
-    let u = under-at _ _ _ _ _ _ _ a wd in
-    let gd = good-under _ _ _ _ _ _ u in
-    let f = facts _ _ _ _ _ gd in
+    let u = under-at p ls is w (point g rs ca s) bs ws a wd in
+    let gd = good-under ls w g rs ca s u in
+    let f = facts w (length s) (g .scalars) rs ca gd in
     let e = c .enters .ensures in (
-      λ x₀ k. entered _ _ _ _ _ _ b _ e (first-second _ _ _ _ _ f (b .idle) (kind-call _ _ _ (c .before .match .keys5))) _ _ _ _ x₀
-          wd k,
+      λ x₀ k. entered _ _ _ _ _ _ b _ e (first-second w (length s) (g .scalars) rs ca f (b .idle) (kind-call w (length s) (gathered
+          (g .scalars) rs) (c .before .match .keys5))) _ _ _ _ x₀ wd k,
       rw e (omega arith),
     )
 
@@ -244,13 +389,28 @@ returns-6 : tie.Need-returns-6
 returns-6 c =
     let c10 = c .before .before .before .before .before .before .before .before .before .before in
     let c20 = c10 .before .before .before .before .before .before .before .before .before .before in
+    let st = c20 .before .before .before .before .args in
+    let p = st .program .now in
+    let ls = st .lines .now in
+    let is = st .inputs .now in
+    let g = st .g in
+    let rs = st .regs .now in
+    let ca = cache (st .full .now) (st .dirty .now) (st .block .now) (st .words .now) in
+    let s = st .store .now in
+    let bs = st .bytes .now in
+    let ws = st .outs .now in
+    let w = st .w in
     let wd = c20 .before .before .before .before .pre .1 in
     let b = c20 .before .before .before .before .pre .2 in (
-      λ x₀ k. answered _ _ _ x₀ _ _ _ _ _ _ k (b .more) _ _ _ _ (ready-here _ _ _ _ _ _ _ wd (b .unheld) (b .idle) (b .none) _ (c
-          .before .before .before .before .before .before .before .before .before .first-arithmetic .ensures)) _ _ _ (c .before .before
-          .before .before .went3 .ensures .0) (c .before .before .before .before .went3 .ensures .1) (c .before .before .before .before
-          .went3 .ensures .2),
-      rw (c .before .before .before .before .went3 .ensures .0) (omega arith),
+      λ x₀ k. answered p ls is x₀ g rs ca s bs ws k (b .more) _ _ _ _ (ready-here p (g .scalars) rs ca s (record {
+        line = getD ls (g
+            .at) 0;
+        input = getD is (g .at) 0;
+      }) w wd (b .unheld) (b .idle) (b .none) _ (c .before .before .before .before .before .before
+          .before .before .before .first-arithmetic .ensures)) _ _ _ (c .before .before .before .before .went3 .ensures .0) (c .before
+          .before .before .before .went3 .ensures .1) (c .before .before .before .before .went3 .ensures .2),
+      rw (c .before .before
+          .before .before .went3 .ensures .0) (omega arith),
     )
 
 pub begin-spec : {M : Type 1} → statement M

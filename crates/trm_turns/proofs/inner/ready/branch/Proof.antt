@@ -11,7 +11,7 @@ use borrow.Author.Tests.{not-true, not-false}
 use Rattle.trm_plan.proofs.Laws.Facts.{facts}
 use Rattle.trm_clock.proofs.Laws.Worked.{ends-worked}
 use Rattle.trm_clock.proofs.Laws.Words.{shows, other-made}
-use Rattle.trm_turns.proofs.Laws.Here.{ready-here}
+use Rattle.trm_ahead.proofs.Laws.Here.{ready-here}
 use Rattle.trm_turns.proofs.Laws.Next.{quiet-answered, few-done, due-true, entered, ended}
 use Rattle.trm_turns.proofs.Laws.Next.{seen, good-next, good-under}
 use borrow.Author.Needs.{needs}

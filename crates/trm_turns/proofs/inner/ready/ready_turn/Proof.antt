@@ -1,7 +1,7 @@
 -- The proof of trm_turns::inner::ready::ready_turn.
 use Rattle.trm_core.specs.declared.record.Running.{Running}
-use Rattle.trm_turns.specs.declared.inner.going.Going.{Going}
-use Rattle.trm_turns.specs.Reached.{point, Turned}
+use Rattle.trm_ahead.specs.declared.inner.going.Going.{Going}
+use Rattle.trm_ahead.specs.Reached.{point, Turned}
 use Rattle.trm_reference.specs.Interrupt.{interruptChosen}
 use Rattle.trm_plan.proofs.Laws.Kinds.{unstepped-of, kind-short}
 use Rattle.trm_plan.proofs.Laws.Plans.{first-quick, idle-running}
@@ -15,7 +15,7 @@ use Rattle.trm_reference.specs.Interrupt.{stalled}
 use Rattle.trm_plan.proofs.Laws.Facts.{facts}
 use Rattle.trm_clock.proofs.Laws.Worked.{ends-worked}
 use Rattle.trm_clock.proofs.Laws.Words.{shows, other-made}
-use Rattle.trm_turns.proofs.Laws.Here.{ready-here}
+use Rattle.trm_ahead.proofs.Laws.Here.{ready-here}
 use Rattle.trm_turns.proofs.Laws.Next.{quiet-answered, few-done}
 use Rattle.trm_turns.proofs.Laws.Next.{phase, good-at-turn, long-turned}
 use borrow.Author.Needs.{needs}

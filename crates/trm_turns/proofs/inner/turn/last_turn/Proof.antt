@@ -4,7 +4,7 @@ use Rattle.trm_clock.proofs.Laws.Late.{late}
 use native.Mathlib.Omega.{arith}
 use Rattle.trm_plan.proofs.Laws.Facts.{facts}
 use Rattle.trm_clock.proofs.Laws.Worked.{ends-worked}
-use Rattle.trm_turns.proofs.Laws.Here.{flight-here}
+use Rattle.trm_ahead.proofs.Laws.Here.{flight-here}
 use Rattle.trm_turns.proofs.Laws.Next.{answered, room}
 use Rattle.trm_turns.proofs.Laws.Next.{good-at-turn}
 use borrow.Author.Needs.{needs}

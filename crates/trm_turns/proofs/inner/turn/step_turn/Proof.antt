@@ -1,13 +1,13 @@
 -- The proof of trm_turns::inner::turn::step_turn.
 use Rattle.trm_reference.specs.Visible.{wordAt}
-use Rattle.trm_turns.proofs.Laws.Here.{good-here}
+use Rattle.trm_ahead.proofs.Laws.Here.{good-here}
 use native.Mathlib.Omega.{arith}
 use mathlib.Core.Path.{sym, ap, _∙_}
 use lib.ListN.{length, getD}
 use borrow.Author.Tests.{not-true, not-false}
 use Rattle.trm_reference.specs.Interrupt.{stalled}
-use Rattle.trm_turns.proofs.Laws.Here.{flight-here}
-use Rattle.trm_turns.proofs.Laws.Ahead.{past-free}
+use Rattle.trm_ahead.proofs.Laws.Here.{flight-here}
+use Rattle.trm_ahead.proofs.Laws.Ahead.{past-free}
 use Rattle.trm_turns.proofs.Laws.Next.{answered, room, due-true}
 use Rattle.trm_turns.proofs.Laws.Next.{under-at}
 use borrow.Author.Needs.{needs}

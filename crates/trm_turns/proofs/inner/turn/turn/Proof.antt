@@ -1,7 +1,7 @@
 -- The proof of trm_turns::inner::turn::turn.
 use native.Mathlib.Omega.{arith}
 use mathlib.Core.Path.{refl, sym, _∙_}
-use Rattle.trm_turns.proofs.Laws.Here.{interrupt-here}
+use Rattle.trm_ahead.proofs.Laws.Here.{interrupt-here}
 use Rattle.trm_turns.proofs.Laws.Next.{quiet-answered, few-done}
 use Rattle.trm_turns.proofs.Laws.Next.{under-at, good-at-turn}
 use borrow.Author.Needs.{needs}

@@ -1,0 +1,23 @@
+-- The proof of trm_ahead::inner::serial::serial_clock.
+use borrow.Author.Needs.{needs}
+use Rattle.trm_ahead.proofs.inner.serial.serial_clock.Statement.{statement}
+use Rattle.trm_ahead.proofs.inner.serial.serial_clock.Tie as tie
+
+is-stalled-requires : tie.Need-is-stalled-requires
+is-stalled-requires c κs = search needs
+
+add-t9 : tie.Need-add-t9
+add-t9 c = search needs
+
+returns : tie.Need-returns
+returns c = λ v p q. rw (← c .before .before .is-stalled .ensures, c .before .if1 .taken)
+
+later-step-requires : tie.Need-later-step-requires
+later-step-requires c κs = c .before .before .before .pre .0
+
+returns-2 : tie.Need-returns-2
+returns-2 c = λ v p q. rw (← c .before .before .is-stalled .ensures, c .before .if1 .left, c .later-step .ensures v p q)
+
+pub serial-clock-spec : {M : Type 1} → statement M
+serial-clock-spec =
+    tie.close (tie.spec is-stalled-requires add-t9 returns later-step-requires returns-2)

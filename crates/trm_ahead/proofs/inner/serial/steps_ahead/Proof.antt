@@ -1,0 +1,136 @@
+-- The proof of trm_ahead::inner::serial::steps_ahead.
+use Rattle.trm_ahead.proofs.Laws.Ahead.{serial-held}
+use Rattle.trm_ahead.proofs.Laws.Ahead.{On, served, serial-begins, serial-on, serves, serial-room}
+use native.Mathlib.Omega.{arith}
+use Prim.Native.Nat.{_+_, _-_, _≤_}
+use mathlib.Core.Path.{ap}
+use lib.ListN.{length}
+use Rattle.trm_cache.specs.Cache.{cache}
+use Rattle.trm_reference.specs.Visible.{Visible}
+use borrow.Author.Needs.{needs}
+use Rattle.trm_ahead.proofs.inner.serial.steps_ahead.Statement.{statement}
+use Rattle.trm_ahead.proofs.inner.serial.steps_ahead.Tie as tie
+
+abbrev Inv-loop : tie.InvT-loop
+Inv-loop g regs full dirty block words store w lines a b s₀ k₀ s k =
+    On lines w 1 g (served g s k) regs (cache full dirty block words) (cache full dirty block words) store store × (s .held ≤ k)
+    × (g .at + k ≤ length lines)
+
+abbrev μ-loop : tie.MeasureT-loop
+μ-loop g regs full dirty block words store w lines a b s₀ k₀ s k = length lines - k
+
+operand-a-requires : tie.Need-operand-a-requires Inv-loop μ-loop
+operand-a-requires c κs = search needs
+
+operand-b-requires : tie.Need-operand-b-requires Inv-loop μ-loop
+operand-b-requires c κs = search needs
+
+loop-holds : tie.Need-loop-holds Inv-loop μ-loop
+loop-holds c = (
+  serial-begins _ _ _ _ _ _ (c .before .before .before .before .before .pre .1),
+  omega arith,
+  omega (
+    arith,
+    c .before .before
+        .before .before .before .pre .0 .so .below,
+  ),
+)
+
+add-if1 : tie.Need-add-if1 Inv-loop μ-loop
+add-if1 c =
+    omega (arith, c .before .loop .inv .2, c .before .before .before .before .before .before .before .pre .0 .so .feed .many)
+
+after-serial-requires : tie.Need-after-serial-requires Inv-loop μ-loop
+after-serial-requires c κs =
+    let c10 = c .before .before .before .before .before .before .before .before .before .before in
+    serial-room _ _ _ _ _ _ _ _ (c10 .pre .0) (c .before .before .before .before .loop .inv .0)
+
+returns : tie.Need-returns Inv-loop μ-loop
+returns c =
+    let n = c .before .before .before .before .before .loop .inv .0 in
+    rw (c .after-serial .ensures) (n .quietly, ap (λ (v : Visible). v .pc) (n .seen), n .phase, n .onto)
+
+add-serial-clock : tie.Need-add-serial-clock Inv-loop μ-loop
+add-serial-clock c =
+    let c10 = c .before .before .before .before .before .before .before .before .before .before in
+    omega (arith, c .before .before .before .before .before .loop .inv .2, c10 .before .pre .0 .so .feed .many)
+
+shared-slice-read-serial-clock : tie.Need-shared-slice-read-serial-clock Inv-loop μ-loop
+shared-slice-read-serial-clock c = c .before .before .before .before .if1 .taken
+
+serial-clock-requires : tie.Need-serial-clock-requires Inv-loop μ-loop
+serial-clock-requires c κs =
+    let c10 = c .before .before .before .before .before .before .before .before .before .before in
+    let n = c .before .before .before .before .before .before .loop .inv in (
+      serves _ _ _ _ _ _ _ _ (c10 .before .before .pre .0) (n .0) (c .before .before .if2 .left) _ _ (c .before .before .before
+          .before .before .before .before .before .before .operand-a .ensures) (c .before .before .before .before .before .before .before
+          .before .operand-b .ensures),
+      omega (
+        arith,
+        n .1,
+        c .before .before .before .before .if1 .taken,
+        c10 .before .before .pre .0 .so
+            .feed .many,
+      ),
+    )
+
+add-k : tie.Need-add-k Inv-loop μ-loop
+add-k c =
+    let c10 = c .before .before .before .before .before .before .before .before .before .before in
+    omega (
+      arith,
+      c .before .before .before .before .before .before .before .loop .inv .2,
+      c10 .before .before .before .pre .0 .so
+          .feed .many,
+    )
+
+loop-less : tie.Need-loop-less Inv-loop μ-loop
+loop-less c = omega (arith, c .before .before .before .before .before .if1 .taken)
+
+loop-again : tie.Need-loop-again Inv-loop μ-loop
+loop-again c =
+    let c10 = c .before .before .before .before .before .before .before .before .before .before in
+    let n = c .before .before .before .before .before .before .before .loop .inv in
+    let u = c10 .before .before .before .pre .0 in
+    let e = c .serial-clock .ensures _ (c10 .operand-a .ensures) (c .before .before .before .before .before .before .before .before
+    .before .operand-b .ensures) in (
+      serial-on _ _ _ _ _ _ _ _ u (n .0) (c .before .before .before .before .before .if1 .taken) (c .before .before .before .if2
+          .left) _ e,
+      serial-held _ _ _ _ _ _ _ _ u (n .0) _ e (n .1),
+      omega (
+        arith,
+        c .before .before .before .before .before .if1
+            .taken,
+      ),
+    )
+
+after-serial-requires-2 : tie.Need-after-serial-requires-2 Inv-loop μ-loop
+after-serial-requires-2 c κs =
+    serial-room _ _ _ _ _ _ _ _ (c .before .before .before .before .before .before .before .before .pre .0) (c .before .before .loop
+    .inv .0)
+
+returns-2 : tie.Need-returns-2 Inv-loop μ-loop
+returns-2 c =
+    let n = c .before .before .before .loop .inv .0 in
+    rw (c .after-serial2 .ensures) (n .quietly, ap (λ (v : Visible). v .pc) (n .seen), n .phase, n .onto)
+
+pub steps-ahead-spec : {M : Type 1} → statement M
+steps-ahead-spec =
+    tie.close
+    (tie.spec
+    Inv-loop
+    μ-loop
+    operand-a-requires
+    operand-b-requires
+    loop-holds
+    add-if1
+    after-serial-requires
+    returns
+    add-serial-clock
+    shared-slice-read-serial-clock
+    serial-clock-requires
+    add-k
+    loop-less
+    loop-again
+    after-serial-requires-2
+    returns-2)

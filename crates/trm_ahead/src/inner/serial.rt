@@ -1,0 +1,113 @@
+// Steps of the multiplier or the divider one after another, held clocks among them.
+// Paper: "33: 32 steps, then the result"; "A clock with stall set is held".
+// Only the registers in flight and the held clocks move, so they stand in few values here.
+ghost use mathlib.Core.Path.{_≡_};
+ghost use mathlib.Core.Bool.{cond};
+ghost use Prim.Native.Nat.{_+_, _≤_, _^_, _<_};
+ghost use Rattle.trm_reference.specs.Visible.{Visible};
+ghost use Rattle.trm_reference.specs.Execute.{operandA, operandB};
+ghost use Rattle.trm_reference.specs.Interrupt.{stalled};
+ghost use Rattle.trm_cache.specs.Cache.{cache};
+ghost use Rattle.trm_core.specs.Record.{stepping};
+ghost use Rattle.trm_steps.specs.Steps.{Serves};
+ghost use Rattle.trm_ahead.specs.Reached.{point, Under, Quietly, withSerial};
+use crate::inner::going::Going;
+use trm_core::record::Running;
+use trm_core::record::Scalars;
+use trm_reading::inner::reading;
+use trm_steps::inner::interrupt;
+use trm_steps::inner::steps;
+
+// What is in flight, and the clocks held meanwhile.
+pub struct Serial {
+    pub running: Running,
+    pub held: u64,
+}
+
+// One clock: held, or one step.
+fn serial_clock(s: Serial, w: u32, a: u32, b: u32, line: u8) -> Serial
+    requires { ⌜ Serves w (s .running) a b × (s .held ≤ 65536) ⌝ }
+    ensures { λ r. ⌜ ((v : Visible) → a ≡ operandA w v → b ≡ operandB w v
+        → r ≡ cond (stalled line) (record { running = s .running; held = s .held + 1 })
+        (record { running = stepping w v (s .running .count + 1); held = s .held })) ⌝ }
+{
+    let before = s.running;
+    if interrupt::is_stalled(line) {
+        return Serial {
+            running: before,
+            held: s.held + 1,
+        };
+    }
+    let after = steps::later_step(before, w, a, b);
+    Serial {
+        running: after,
+        held: s.held,
+    }
+}
+
+// The scalars after so many clocks of this.
+fn with_serial(c: Scalars, s: Serial, clocks: u64) -> Scalars
+    requires { ⌜ (c .counts .clocks + clocks < 2 ^ 32) × (c .counts .held + s .held < 2 ^ 32) ⌝ }
+    ensures { λ r. ⌜ r ≡ withSerial c s clocks ⌝ }
+{
+    let mut next = c;
+    let running = s.running;
+    next.running = running;
+    let held = next.counts.held + s.held;
+    next.counts.held = held;
+    let all = next.counts.clocks + clocks;
+    next.counts.clocks = all;
+    next
+}
+
+// Where the run stands after k clocks of this.
+fn after_serial(g: Going, s: Serial, k: usize) -> Going
+    requires { ⌜ (g .at + k ≤ 65536) × (g .scalars .counts .clocks + k < 2 ^ 32) × (g .scalars .counts .held + s .held < 2 ^ 32) ⌝ }
+    ensures { λ r. ⌜ r ≡ record { scalars = withSerial (g .scalars) s k; at = g .at + k; finished = g .finished } ⌝ }
+{
+    let c = with_serial(g.scalars, s, k as u64);
+    Going {
+        scalars: c,
+        at: g.at + k,
+        finished: g.finished,
+    }
+}
+
+// Phase 1, as long as there are steps and clocks.
+pub fn steps_ahead(
+    g: Going,
+    regs: &[u32; 16],
+    full: &[u8; 16],
+    dirty: &[u8; 16],
+    block: &[u16; 16],
+    words: &[u32; 128],
+    store: &[u32],
+    w: u32,
+    lines: &[u8],
+) -> Going
+    requires { ⌜ Under (now lines) w (point g (now regs) (cache (now full) (now dirty) (now block) (now words)) (now store))
+        × (g .scalars .running .phase ≡ 1) ⌝ }
+    ensures { λ r. ⌜ Quietly (now (lines .entry)) w
+        (point g (now (regs .entry)) (cache (now (full .entry)) (now (dirty .entry)) (now (block .entry)) (now (words .entry)))
+        (now (store .entry)))
+        (point r (now (regs .entry)) (cache (now (full .entry)) (now (dirty .entry)) (now (block .entry)) (now (words .entry)))
+        (now (store .entry)))
+        × (r .scalars .pc ≡ g .scalars .pc) × (r .scalars .running .phase ≡ 1) × (g .at ≤ r .at) ⌝ }
+{
+    let a = reading::operand_a(g.scalars, regs, w);
+    let b = reading::operand_b(g.scalars, regs, w);
+    let running = g.scalars.running;
+    let mut s = Serial {
+        running: running,
+        held: 0,
+    };
+    let mut k: usize = 0;
+    while g.at + k < lines.len() {
+        if s.running.count == 32 {
+            return after_serial(g, s, k);
+        }
+        s = serial_clock(s, w, a, b, lines[g.at + k]);
+        k += 1;
+    }
+    after_serial(g, s, k)
+}
