@@ -1,14 +1,13 @@
 -- The proof of trm_turns::inner::ready::begin.
-use Rattle.trm_core.specs.Record.{gathered}
-use Rattle.trm_ahead.specs.Reached.{point}
-use Prim.Native.Nat.{_/_, _^_}
+use Rattle.trm_clock.proofs.Laws.Words.{call-left}
 use Rattle.trm_plan.proofs.Laws.Kinds.{kind-call}
 use Rattle.trm_plan.proofs.Laws.Plans.{first-second}
 use native.Mathlib.Omega.{arith}
-use native.Mathlib.Nat.{mod-lt}
 use lib.ListN.{length, getD}
 use Rattle.trm_cache.specs.Cache.{cache}
 use Rattle.trm_plan.proofs.Laws.Facts.{facts}
+use Rattle.trm_core.specs.Record.{gathered}
+use Rattle.trm_ahead.specs.Reached.{point}
 use Rattle.trm_ahead.proofs.Laws.Here.{ready-here}
 use Rattle.trm_turns.proofs.Laws.Next.{answered, room, few-done, entered}
 use Rattle.trm_turns.proofs.Laws.Next.{under-at, good-under}
@@ -162,44 +161,24 @@ branch-requires c κs =
     let u = under-at p ls is w (point g rs ca s) bs ws a wd in
     (u, b, c .before .before .before .before .before .before .match .keys4)
 
-enters-requires : tie.Need-enters-requires
-enters-requires c κs =
-    let st = c .before .before .before .before .before .before .before .args in
-    let p = st .program .now in
-    let ls = st .lines .now in
-    let is = st .inputs .now in
-    let g = st .g in
-    let rs = st .regs .now in
-    let ca = cache (st .full .now) (st .dirty .now) (st .block .now) (st .words .now) in
-    let s = st .store .now in
-    let bs = st .bytes .now in
-    let ws = st .outs .now in
-    let w = st .w in
-    let a = c .before .before .before .before .before .before .before .pre .0 in
-    let wd = c .before .before .before .before .before .before .before .pre .1 in
-    let b = c .before .before .before .before .before .before .before .pre .2 in
-    let u = under-at p ls is w (point g rs ca s) bs ws a wd in
-    let gd = good-under ls w g rs ca s u in
-    (few-done p ls is (a .from) g rs ca s bs ws (a .so) (b .more) .0, gd .counts)
-
 mul-first-arithmetic : tie.Need-mul-first-arithmetic
 mul-first-arithmetic c =
     let c10 = c .before .before .before .before .before .before .before .before .before .before in
-    let a = c10 .before .before .before .pre .0 in
-    let b = c10 .before .before .before .pre .2 in
+    let a = c10 .before .before .before .before .pre .0 in
+    let b = c10 .before .before .before .before .pre .2 in
     omega (arith, b .more, a .so .feed .many)
 
 shared-slice-read-first-arithmetic : tie.Need-shared-slice-read-first-arithmetic
 shared-slice-read-first-arithmetic c =
     let c10 = c .before .before .before .before .before .before .before .before .before .before in
-    let a = c10 .before .before .before .before .pre .0 in
-    let b = c10 .before .before .before .before .pre .2 in
+    let a = c10 .before .before .before .before .before .pre .0 in
+    let b = c10 .before .before .before .before .before .pre .2 in
     omega (arith, b .more, a .so .feed .fed)
 
 first-arithmetic-requires : tie.Need-first-arithmetic-requires
 first-arithmetic-requires c κs =
     let c10 = c .before .before .before .before .before .before .before .before .before .before in
-    let st = c10 .before .before .before .before .args in
+    let st = c10 .before .before .before .before .before .args in
     let p = st .program .now in
     let ls = st .lines .now in
     let is = st .inputs .now in
@@ -210,32 +189,19 @@ first-arithmetic-requires c κs =
     let bs = st .bytes .now in
     let ws = st .outs .now in
     let w = st .w in
-    let a = c10 .before .before .before .before .pre .0 in
-    let wd = c10 .before .before .before .before .pre .1 in
-    let b = c10 .before .before .before .before .pre .2 in
-    let o = c10 .before .before .before .before .pre .3 in
+    let a = c10 .before .before .before .before .before .pre .0 in
+    let wd = c10 .before .before .before .before .before .pre .1 in
+    let b = c10 .before .before .before .before .before .pre .2 in
+    let o = c10 .before .before .before .before .before .pre .3 in
     let u = under-at p ls is w (point g rs ca s) bs ws a wd in
-    let gd = good-under ls w g rs ca s u in (
-      gd,
-      b .idle,
-      o,
-      (let m = c .before .before .before .before .before .before .before .match .rest in omega (
-        arith,
-        mod-lt ((c10
-            .before .before .before .before .args .w) / 2 ^ 14) {m = 2 ^ 4} (omega arith),
-        m .0 .0 .0 .0 .1,
-        m .0 .0 .0 .1,
-        m .0 .0 .1,
-        m .0
-            .1,
-        m .1,
-      )),
-    )
+    let gd = good-under ls w g rs ca s u in
+    (gd, b .idle, o, c .before .before .before .before .before .before .before .if1 .taken)
 
 went-requires-3 : tie.Need-went-requires-3
 went-requires-3 c κs =
     let c10 = c .before .before .before .before .before .before .before .before .before .before in
-    let st = c10 .before .before .before .before .before .before .before .before .before .args in
+    let c20 = c10 .before .before .before .before .before .before .before .before .before .before in
+    let st = c20 .args in
     let p = st .program .now in
     let ls = st .lines .now in
     let is = st .inputs .now in
@@ -246,15 +212,35 @@ went-requires-3 c κs =
     let bs = st .bytes .now in
     let ws = st .outs .now in
     let w = st .w in
-    let a = c10 .before .before .before .before .before .before .before .before .before .pre .0 in
-    let wd = c10 .before .before .before .before .before .before .before .before .before .pre .1 in
-    let b = c10 .before .before .before .before .before .before .before .before .before .pre .2 in
+    let a = c20 .pre .0 in
+    let wd = c20 .pre .1 in
+    let b = c20 .pre .2 in
     room p ls is (a .from) g rs ca s bs ws (a .so) (b .more) _ _ _ _ (ready-here p (g .scalars) rs ca s (record {
       line = getD ls (g
           .at) 0;
       input = getD is (g .at) 0;
     }) w wd (b .unheld) (b .idle) (b .none) _ (c .before .before .before .before .first-arithmetic
     .ensures))
+
+enters-requires : tie.Need-enters-requires
+enters-requires c κs =
+    let st = c .before .before .before .before .before .before .before .before .args in
+    let p = st .program .now in
+    let ls = st .lines .now in
+    let is = st .inputs .now in
+    let g = st .g in
+    let rs = st .regs .now in
+    let ca = cache (st .full .now) (st .dirty .now) (st .block .now) (st .words .now) in
+    let s = st .store .now in
+    let bs = st .bytes .now in
+    let ws = st .outs .now in
+    let w = st .w in
+    let a = c .before .before .before .before .before .before .before .before .pre .0 in
+    let wd = c .before .before .before .before .before .before .before .before .pre .1 in
+    let b = c .before .before .before .before .before .before .before .before .pre .2 in
+    let u = under-at p ls is w (point g rs ca s) bs ws a wd in
+    let gd = good-under ls w g rs ca s u in
+    (few-done p ls is (a .from) g rs ca s bs ws (a .so) (b .more) .0, gd .counts)
 
 same-length : tie.Need-same-length
 same-length c = search needs
@@ -351,31 +337,6 @@ returns-4 c =
     let wd = c10 .before .before .before .before .pre .1 in
     (λ x₀ k. c .branch .ensures .0 _ _ _ _ x₀ wd k, c .branch .ensures .1)
 
-returns-5 : tie.Need-returns-5
-returns-5 c =
-    let st = c .before .before .before .before .before .before .before .before .args in
-    let p = st .program .now in
-    let ls = st .lines .now in
-    let is = st .inputs .now in
-    let g = st .g in
-    let rs = st .regs .now in
-    let ca = cache (st .full .now) (st .dirty .now) (st .block .now) (st .words .now) in
-    let s = st .store .now in
-    let bs = st .bytes .now in
-    let ws = st .outs .now in
-    let w = st .w in
-    let a = c .before .before .before .before .before .before .before .before .pre .0 in
-    let wd = c .before .before .before .before .before .before .before .before .pre .1 in
-    let b = c .before .before .before .before .before .before .before .before .pre .2 in
-    let u = under-at p ls is w (point g rs ca s) bs ws a wd in
-    let gd = good-under ls w g rs ca s u in
-    let f = facts w (length s) (g .scalars) rs ca gd in
-    let e = c .enters .ensures in (
-      λ x₀ k. entered _ _ _ _ _ _ b _ e (first-second w (length s) (g .scalars) rs ca f (b .idle) (kind-call w (length s) (gathered
-          (g .scalars) rs) (c .before .match .keys5))) _ _ _ _ x₀ wd k,
-      rw e (omega arith),
-    )
-
 same-length-11 : tie.Need-same-length-11
 same-length-11 c = search needs
 
@@ -385,11 +346,11 @@ same-length-12 c = search needs
 same-length-13 : tie.Need-same-length-13
 same-length-13 c = search needs
 
-returns-6 : tie.Need-returns-6
-returns-6 c =
+returns-5 : tie.Need-returns-5
+returns-5 c =
     let c10 = c .before .before .before .before .before .before .before .before .before .before in
     let c20 = c10 .before .before .before .before .before .before .before .before .before .before in
-    let st = c20 .before .before .before .before .args in
+    let st = c20 .before .before .before .before .before .args in
     let p = st .program .now in
     let ls = st .lines .now in
     let is = st .inputs .now in
@@ -400,8 +361,8 @@ returns-6 c =
     let bs = st .bytes .now in
     let ws = st .outs .now in
     let w = st .w in
-    let wd = c20 .before .before .before .before .pre .1 in
-    let b = c20 .before .before .before .before .pre .2 in (
+    let wd = c20 .before .before .before .before .before .pre .1 in
+    let b = c20 .before .before .before .before .before .pre .2 in (
       λ x₀ k. answered p ls is x₀ g rs ca s bs ws k (b .more) _ _ _ _ (ready-here p (g .scalars) rs ca s (record {
         line = getD ls (g
             .at) 0;
@@ -411,6 +372,31 @@ returns-6 c =
           .before .before .before .went3 .ensures .1) (c .before .before .before .before .went3 .ensures .2),
       rw (c .before .before
           .before .before .went3 .ensures .0) (omega arith),
+    )
+
+returns-6 : tie.Need-returns-6
+returns-6 c =
+    let st = c .before .before .before .before .before .before .before .before .before .args in
+    let p = st .program .now in
+    let ls = st .lines .now in
+    let is = st .inputs .now in
+    let g = st .g in
+    let rs = st .regs .now in
+    let ca = cache (st .full .now) (st .dirty .now) (st .block .now) (st .words .now) in
+    let s = st .store .now in
+    let bs = st .bytes .now in
+    let ws = st .outs .now in
+    let w = st .w in
+    let a = c .before .before .before .before .before .before .before .before .before .pre .0 in
+    let wd = c .before .before .before .before .before .before .before .before .before .pre .1 in
+    let b = c .before .before .before .before .before .before .before .before .before .pre .2 in
+    let u = under-at p ls is w (point g rs ca s) bs ws a wd in
+    let gd = good-under ls w g rs ca s u in
+    let f = facts w (length s) (g .scalars) rs ca gd in
+    let e = c .enters .ensures in (
+      λ x₀ k. entered _ _ _ _ _ _ b _ e (first-second w (length s) (g .scalars) rs ca f (b .idle) (kind-call w (length s) (gathered
+          (g .scalars) rs) (call-left w (c .before .if1 .left) (c .before .before .match .rest)))) _ _ _ _ x₀ wd k,
+      rw e (omega arith),
     )
 
 pub begin-spec : {M : Type 1} → statement M
@@ -427,11 +413,11 @@ begin-spec =
     first-store-requires
     went-requires-2
     branch-requires
-    enters-requires
     mul-first-arithmetic
     shared-slice-read-first-arithmetic
     first-arithmetic-requires
     went-requires-3
+    enters-requires
     same-length
     same-length-2
     same-length-3
@@ -446,8 +432,8 @@ begin-spec =
     returns-3
     same-length-10
     returns-4
-    returns-5
     same-length-11
     same-length-12
     same-length-13
+    returns-5
     returns-6)
