@@ -2,11 +2,12 @@
 -- Idea: the laws of the run's point, with the point that the code made in place of the clock's own.
 -- Assumes nothing.
 --   answered, quiet-answered, onward-answered   the next point        room   what `went` asks        due-true, due-false   what `due` tells
+--   Opens, opens   what is known where a word begins        device-first, hit-first   of LD
 --   under-at, good-under, good-at-turn, long-turned   what a run that stands somewhere tells
 --   idled, turned-from, at-from   of the loop over words
 --   unraised, past-raised, raised-none   what `raised` tells
 --   last-here   the clock of phase 5        entered, ended   a word's first of two clocks, and its second
-use Prim.Native.Nat.{ℕ, _+_, _≤_, _<_}
+use Prim.Native.Nat.{ℕ, _+_, _/_, _%_, _≤_, _<_}
 use mathlib.Core.Path.{_≡_, refl, sym, ap, _∙_, subst}
 use mathlib.Core.Bool.{Bool, true, false, cond, not, _&&_, _||_, and-false}
 use mathlib.Core.List.{List}
@@ -16,26 +17,28 @@ use borrow.Author.Tests.{eqb-true, ltb-true}
 use native.Mathlib.Decide.{ℕ-discrete}
 use native.Mathlib.Omega.{arith}
 use Rattle.trm_laws.proofs.Tests.{both, clash, bool-clash}
-use Rattle.trm_word.specs.Fields.{bit}
+use Rattle.trm_word.specs.Fields.{operation, bit}
+use Rattle.trm_word.specs.declared.inner.address.Place.the-variants.{Device, Memory}
 use Rattle.trm_word.specs.Condition.{isSet}
 use Rattle.trm_reference.specs.Geometry.{paperGeometry}
-use Rattle.trm_reference.specs.Visible.{wordAt}
-use Rattle.trm_reference.specs.Access.{Answer}
+use Rattle.trm_reference.specs.Visible.{wordAt, cacheOn}
+use Rattle.trm_reference.specs.Access.{placeOfWord, Answer}
 use Rattle.trm_reference.specs.Interrupt.{stalled, lineRaised, interruptChosen}
 use Rattle.trm_reference.specs.Trace.{Pins, After}
-use Rattle.trm_cache.specs.Cache.{Cache}
+use Rattle.trm_cache.specs.Cache.{Cache, lineAt, holds}
 use Rattle.trm_core.specs.declared.record.Running.{Running}
 use Rattle.trm_core.specs.declared.record.Scalars.{Scalars}
 use Rattle.trm_core.specs.Record.{Lent, gathered, whole, inPhase, advanced}
 use Rattle.trm_core.specs.Clock.{moved, finish, clockOf}
 use Rattle.trm_plan.specs.Plan.{Good, Does}
-use Rattle.trm_plan.proofs.Laws.Facts.{facts}
-use Rattle.trm_plan.proofs.Laws.Plans.{idle-running}
+use Rattle.trm_plan.proofs.Laws.Facts.{Facts, facts}
+use Rattle.trm_plan.proofs.Laws.Kinds.{load-access, kind-device, kind-cached, hits-at}
+use Rattle.trm_plan.proofs.Laws.Plans.{first-device-load, first-hit-load, idle-running}
 use Rattle.trm_plan.proofs.Laws.Flight.{due-ends}
 use Rattle.trm_clock.specs.declared.inner.outcome.Clocked.{Clocked}
 use Rattle.trm_clock.specs.Made.{made}
 use Rattle.trm_clock.proofs.Laws.Worked.{ends-worked}
-use Rattle.trm_clock.proofs.Laws.Words.{shows}
+use Rattle.trm_clock.proofs.Laws.Words.{shows, not-store}
 use Rattle.trm_ahead.specs.declared.inner.going.Going.{Going}
 use Rattle.trm_ahead.specs.Reached.{Point, point, Reached, Room, Begins, At, Turned, Under, Quietly}
 use Rattle.trm_ahead.proofs.Laws.Adds.{clock-adds}
@@ -147,6 +150,33 @@ good-under ls w g rs ca s u =
 pub good-at-turn : (p ls is : List ℕ) (w : ℕ) (g : Going) (rs : List ℕ) (ca : Cache) (s bs ws : List ℕ)
     → At p ls is (point g rs ca s) bs ws → w ≡ wordAt p (g .scalars .pc) → Good w (length s) (g .scalars) rs ca
 good-at-turn p ls is w g rs ca s bs ws a at = good-here p ls is (a .from) g rs ca s bs ws (a .so) w at
+
+-- what is known where a word begins
+pub record Opens (ls : List ℕ) (w : ℕ) (g : Going) (rs : List ℕ) (ca : Cache) (s : List ℕ) : Type 0 where
+  pub under : Under ls w (point g rs ca s)
+  pub good : Good w (length s) (g .scalars) rs ca
+  pub facts : Facts w (length s) (g .scalars) rs ca
+  pub few : (g .at ≤ 65536) × (g .finished ≤ 65536)
+
+pub opens : (p ls is : List ℕ) (w : ℕ) (g : Going) (rs : List ℕ) (ca : Cache) (s bs ws : List ℕ)
+    → At p ls is (point g rs ca s) bs ws → w ≡ wordAt p (g .scalars .pc) → Begins ls g → Opens ls w g rs ca s
+opens p ls is w g rs ca s bs ws a at b = let k = good-at-turn p ls is w g rs ca s bs ws a at in record {
+  under = under-at p ls is w (point g rs ca s) bs ws a at;
+  good = k;
+  facts = facts w (length s) (g .scalars) rs ca k;
+  few = few-done p ls is (a .from) g rs ca s bs ws (a .so) (b .more);
+}
+
+-- LD has a second clock: from a device, and where its block is in the line
+module _ (w n : ℕ) (c : Scalars) (rs : List ℕ) (ca : Cache) (f : Facts w n c rs ca) (z : c .running .phase ≡ 0) (o : operation w ≡ 12) where
+  pub device-first : (d : ℕ) → placeOfWord w (gathered c rs) n ≡ Device d → Does w n c rs ca (λ y. moved c (inPhase 5 0) ca y 0 0)
+  device-first d p = first-device-load w n c rs ca f z (kind-device w n (gathered c rs) (load-access w o) d p) (not-store w o)
+
+  pub hit-first : (a : ℕ) → placeOfWord w (gathered c rs) n ≡ Memory a → cacheOn (gathered c rs) ≡ true
+      → (h : Bool) → h ≡ holds (lineAt paperGeometry ca (a / 8 % 16)) (a / 8) → h ≡ true
+      → Does w n c rs ca (λ y. moved c (inPhase 5 0) ca y 0 0)
+  hit-first a p on h e t = first-hit-load w n c rs ca f z (kind-cached w n (gathered c rs) (load-access w o) a p on)
+      (hits-at _ _ _ _ _ p ∙ sym e ∙ t) (not-store w o)
 
 -- the lengths where a run stands are those where it stood
 pub record Long (q : Point) (bs ws : List ℕ) (q′ : Point) (bs′ ws′ : List ℕ) : Type 0 where

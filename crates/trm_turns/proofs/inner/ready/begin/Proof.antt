@@ -1,16 +1,14 @@
 -- The proof of trm_turns::inner::ready::begin.
+use Rattle.trm_ahead.proofs.Laws.Here.{ready-here}
+use Rattle.trm_turns.proofs.Laws.Next.{answered, room, entered}
+use Rattle.trm_turns.proofs.Laws.Next.{opens}
 use Rattle.trm_clock.proofs.Laws.Words.{call-left}
 use Rattle.trm_plan.proofs.Laws.Kinds.{kind-call}
 use Rattle.trm_plan.proofs.Laws.Plans.{first-second}
 use native.Mathlib.Omega.{arith}
-use lib.ListN.{length, getD}
-use Rattle.trm_cache.specs.Cache.{cache}
 use Rattle.trm_plan.proofs.Laws.Facts.{facts}
-use Rattle.trm_core.specs.Record.{gathered}
-use Rattle.trm_ahead.specs.Reached.{point}
 use Rattle.trm_ahead.proofs.Laws.Here.{ready-here}
-use Rattle.trm_turns.proofs.Laws.Next.{answered, room, few-done, entered}
-use Rattle.trm_turns.proofs.Laws.Next.{under-at, good-under}
+use Rattle.trm_turns.proofs.Laws.Next.{answered, room, entered}
 use borrow.Author.Needs.{needs}
 use Rattle.trm_turns.proofs.inner.ready.begin.Statement.{statement}
 use Rattle.trm_turns.proofs.inner.ready.begin.Tie as tie
@@ -18,229 +16,115 @@ use Rattle.trm_turns.proofs.inner.ready.begin.Tie as tie
 mul-first-control : tie.Need-mul-first-control
 mul-first-control c =
     let c10 = c .before .before .before .before .before .before .before .before .before .before in
-    let a = c10 .before .before .before .pre .0 in
-    let b = c10 .before .before .before .pre .2 in
-    omega (arith, b .more, a .so .feed .many)
+    let pr = c10 .before .before .before .pre in
+    let b = pr .2 in
+    omega (arith, b .more, pr .0 .so .feed .many)
 
 shared-slice-read-first-control : tie.Need-shared-slice-read-first-control
 shared-slice-read-first-control c =
     let c10 = c .before .before .before .before .before .before .before .before .before .before in
-    let a = c10 .before .before .before .before .pre .0 in
-    let b = c10 .before .before .before .before .pre .2 in
-    omega (arith, b .more, a .so .feed .fed)
+    let pr = c10 .before .before .before .before .pre in
+    let b = pr .2 in
+    omega (arith, b .more, pr .0 .so .feed .fed)
 
 first-control-requires : tie.Need-first-control-requires
 first-control-requires c κs =
     let c10 = c .before .before .before .before .before .before .before .before .before .before in
-    let st = c10 .before .before .before .before .args in
-    let p = st .program .now in
-    let ls = st .lines .now in
-    let is = st .inputs .now in
-    let g = st .g in
-    let rs = st .regs .now in
-    let ca = cache (st .full .now) (st .dirty .now) (st .block .now) (st .words .now) in
-    let s = st .store .now in
-    let bs = st .bytes .now in
-    let ws = st .outs .now in
-    let w = st .w in
-    let a = c10 .before .before .before .before .pre .0 in
-    let wd = c10 .before .before .before .before .pre .1 in
-    let b = c10 .before .before .before .before .pre .2 in
-    let u = under-at p ls is w (point g rs ca s) bs ws a wd in
-    let gd = good-under ls w g rs ca s u in
-    (gd, b .idle, c .before .before .before .before .before .before .before .match .keys1)
+    let pr = c10 .before .before .before .before .pre in
+    let b = pr .2 in
+    let q = opens _ _ _ _ _ _ _ _ _ _ (pr .0) (pr .1) b in
+    (q .good, b .idle, c .before .before .before .before .before .before .before .match .keys1)
 
 went-requires : tie.Need-went-requires
 went-requires c κs =
     let c10 = c .before .before .before .before .before .before .before .before .before .before in
-    let st = c10 .before .before .before .before .before .before .before .before .before .args in
-    let p = st .program .now in
-    let ls = st .lines .now in
-    let is = st .inputs .now in
-    let g = st .g in
-    let rs = st .regs .now in
-    let ca = cache (st .full .now) (st .dirty .now) (st .block .now) (st .words .now) in
-    let s = st .store .now in
-    let bs = st .bytes .now in
-    let ws = st .outs .now in
-    let w = st .w in
-    let a = c10 .before .before .before .before .before .before .before .before .before .pre .0 in
-    let wd = c10 .before .before .before .before .before .before .before .before .before .pre .1 in
-    let b = c10 .before .before .before .before .before .before .before .before .before .pre .2 in
-    room p ls is (a .from) g rs ca s bs ws (a .so) (b .more) _ _ _ _ (ready-here p (g .scalars) rs ca s (record {
-      line = getD ls (g
-          .at) 0;
-      input = getD is (g .at) 0;
-    }) w wd (b .unheld) (b .idle) (b .none) _ (c .before .before .before .before .first-control
-    .ensures))
+    let pr = c10 .before .before .before .before .before .before .before .before .before .pre in
+    let b = pr .2 in
+    room _ _ _ _ _ _ _ _ _ _ (pr .0 .so) (b .more) _ _ _ _ (ready-here _ _ _ _ _ _ _ (pr .1) (b .unheld) (b .idle) (b .none) _ (c
+    .before .before .before .before .first-control .ensures))
 
 load-requires : tie.Need-load-requires
 load-requires c κs =
     let c10 = c .before .before .before .before .before .before .before .before .before .before in
-    let a = c10 .before .before .before .before .before .pre .0 in
-    let wd = c10 .before .before .before .before .before .pre .1 in
-    let b = c10 .before .before .before .before .before .pre .2 in
-    (a, wd, b, c .before .before .before .before .before .before .before .before .match .keys2)
+    let pr = c10 .before .before .before .before .before .pre in
+    let b = pr .2 in
+    (pr .0, pr .1, b, c .before .before .before .before .before .before .before .before .match .keys2)
 
 mul-first-store : tie.Need-mul-first-store
 mul-first-store c =
     let c10 = c .before .before .before .before .before .before .before .before .before .before in
-    let a = c10 .before .before .before .pre .0 in
-    let b = c10 .before .before .before .pre .2 in
-    omega (arith, b .more, a .so .feed .many)
+    let pr = c10 .before .before .before .pre in
+    let b = pr .2 in
+    omega (arith, b .more, pr .0 .so .feed .many)
 
 shared-slice-read-first-store : tie.Need-shared-slice-read-first-store
 shared-slice-read-first-store c =
     let c10 = c .before .before .before .before .before .before .before .before .before .before in
-    let a = c10 .before .before .before .before .pre .0 in
-    let b = c10 .before .before .before .before .pre .2 in
-    omega (arith, b .more, a .so .feed .fed)
+    let pr = c10 .before .before .before .before .pre in
+    let b = pr .2 in
+    omega (arith, b .more, pr .0 .so .feed .fed)
 
 first-store-requires : tie.Need-first-store-requires
 first-store-requires c κs =
     let c10 = c .before .before .before .before .before .before .before .before .before .before in
-    let st = c10 .before .before .before .before .args in
-    let p = st .program .now in
-    let ls = st .lines .now in
-    let is = st .inputs .now in
-    let g = st .g in
-    let rs = st .regs .now in
-    let ca = cache (st .full .now) (st .dirty .now) (st .block .now) (st .words .now) in
-    let s = st .store .now in
-    let bs = st .bytes .now in
-    let ws = st .outs .now in
-    let w = st .w in
-    let a = c10 .before .before .before .before .pre .0 in
-    let wd = c10 .before .before .before .before .pre .1 in
-    let b = c10 .before .before .before .before .pre .2 in
-    let u = under-at p ls is w (point g rs ca s) bs ws a wd in
-    let gd = good-under ls w g rs ca s u in
-    (gd, b .idle, c .before .before .before .before .before .before .before .match .keys3)
+    let pr = c10 .before .before .before .before .pre in
+    let b = pr .2 in
+    let q = opens _ _ _ _ _ _ _ _ _ _ (pr .0) (pr .1) b in
+    (q .good, b .idle, c .before .before .before .before .before .before .before .match .keys3)
 
 went-requires-2 : tie.Need-went-requires-2
 went-requires-2 c κs =
     let c10 = c .before .before .before .before .before .before .before .before .before .before in
-    let st = c10 .before .before .before .before .before .before .before .before .before .args in
-    let p = st .program .now in
-    let ls = st .lines .now in
-    let is = st .inputs .now in
-    let g = st .g in
-    let rs = st .regs .now in
-    let ca = cache (st .full .now) (st .dirty .now) (st .block .now) (st .words .now) in
-    let s = st .store .now in
-    let bs = st .bytes .now in
-    let ws = st .outs .now in
-    let w = st .w in
-    let a = c10 .before .before .before .before .before .before .before .before .before .pre .0 in
-    let wd = c10 .before .before .before .before .before .before .before .before .before .pre .1 in
-    let b = c10 .before .before .before .before .before .before .before .before .before .pre .2 in
-    room p ls is (a .from) g rs ca s bs ws (a .so) (b .more) _ _ _ _ (ready-here p (g .scalars) rs ca s (record {
-      line = getD ls (g
-          .at) 0;
-      input = getD is (g .at) 0;
-    }) w wd (b .unheld) (b .idle) (b .none) _ (c .before .before .before .before .first-store
-    .ensures))
+    let pr = c10 .before .before .before .before .before .before .before .before .before .pre in
+    let b = pr .2 in
+    room _ _ _ _ _ _ _ _ _ _ (pr .0 .so) (b .more) _ _ _ _ (ready-here _ _ _ _ _ _ _ (pr .1) (b .unheld) (b .idle) (b .none) _ (c
+    .before .before .before .before .first-store .ensures))
 
 branch-requires : tie.Need-branch-requires
 branch-requires c κs =
     let c10 = c .before .before .before .before .before .before .before .before .before .before in
-    let st = c10 .before .before .before .args in
-    let p = st .program .now in
-    let ls = st .lines .now in
-    let is = st .inputs .now in
-    let g = st .g in
-    let rs = st .regs .now in
-    let ca = cache (st .full .now) (st .dirty .now) (st .block .now) (st .words .now) in
-    let s = st .store .now in
-    let bs = st .bytes .now in
-    let ws = st .outs .now in
-    let w = st .w in
-    let a = c10 .before .before .before .pre .0 in
-    let wd = c10 .before .before .before .pre .1 in
-    let b = c10 .before .before .before .pre .2 in
-    let u = under-at p ls is w (point g rs ca s) bs ws a wd in
-    (u, b, c .before .before .before .before .before .before .match .keys4)
+    let pr = c10 .before .before .before .pre in
+    let b = pr .2 in
+    let q = opens _ _ _ _ _ _ _ _ _ _ (pr .0) (pr .1) b in
+    (q .under, b, c .before .before .before .before .before .before .match .keys4)
 
 mul-first-arithmetic : tie.Need-mul-first-arithmetic
 mul-first-arithmetic c =
     let c10 = c .before .before .before .before .before .before .before .before .before .before in
-    let a = c10 .before .before .before .before .pre .0 in
-    let b = c10 .before .before .before .before .pre .2 in
-    omega (arith, b .more, a .so .feed .many)
+    let pr = c10 .before .before .before .before .pre in
+    let b = pr .2 in
+    omega (arith, b .more, pr .0 .so .feed .many)
 
 shared-slice-read-first-arithmetic : tie.Need-shared-slice-read-first-arithmetic
 shared-slice-read-first-arithmetic c =
     let c10 = c .before .before .before .before .before .before .before .before .before .before in
-    let a = c10 .before .before .before .before .before .pre .0 in
-    let b = c10 .before .before .before .before .before .pre .2 in
-    omega (arith, b .more, a .so .feed .fed)
+    let pr = c10 .before .before .before .before .before .pre in
+    let b = pr .2 in
+    omega (arith, b .more, pr .0 .so .feed .fed)
 
 first-arithmetic-requires : tie.Need-first-arithmetic-requires
 first-arithmetic-requires c κs =
     let c10 = c .before .before .before .before .before .before .before .before .before .before in
-    let st = c10 .before .before .before .before .before .args in
-    let p = st .program .now in
-    let ls = st .lines .now in
-    let is = st .inputs .now in
-    let g = st .g in
-    let rs = st .regs .now in
-    let ca = cache (st .full .now) (st .dirty .now) (st .block .now) (st .words .now) in
-    let s = st .store .now in
-    let bs = st .bytes .now in
-    let ws = st .outs .now in
-    let w = st .w in
-    let a = c10 .before .before .before .before .before .pre .0 in
-    let wd = c10 .before .before .before .before .before .pre .1 in
-    let b = c10 .before .before .before .before .before .pre .2 in
-    let o = c10 .before .before .before .before .before .pre .3 in
-    let u = under-at p ls is w (point g rs ca s) bs ws a wd in
-    let gd = good-under ls w g rs ca s u in
-    (gd, b .idle, o, c .before .before .before .before .before .before .before .if1 .taken)
+    let pr = c10 .before .before .before .before .before .pre in
+    let b = pr .2 in
+    let q = opens _ _ _ _ _ _ _ _ _ _ (pr .0) (pr .1) b in
+    (q .good, b .idle, pr .3, c .before .before .before .before .before .before .before .if1 .taken)
 
 went-requires-3 : tie.Need-went-requires-3
 went-requires-3 c κs =
     let c10 = c .before .before .before .before .before .before .before .before .before .before in
     let c20 = c10 .before .before .before .before .before .before .before .before .before .before in
-    let st = c20 .args in
-    let p = st .program .now in
-    let ls = st .lines .now in
-    let is = st .inputs .now in
-    let g = st .g in
-    let rs = st .regs .now in
-    let ca = cache (st .full .now) (st .dirty .now) (st .block .now) (st .words .now) in
-    let s = st .store .now in
-    let bs = st .bytes .now in
-    let ws = st .outs .now in
-    let w = st .w in
-    let a = c20 .pre .0 in
-    let wd = c20 .pre .1 in
-    let b = c20 .pre .2 in
-    room p ls is (a .from) g rs ca s bs ws (a .so) (b .more) _ _ _ _ (ready-here p (g .scalars) rs ca s (record {
-      line = getD ls (g
-          .at) 0;
-      input = getD is (g .at) 0;
-    }) w wd (b .unheld) (b .idle) (b .none) _ (c .before .before .before .before .first-arithmetic
-    .ensures))
+    let pr = c20 .pre in
+    let b = pr .2 in
+    room _ _ _ _ _ _ _ _ _ _ (pr .0 .so) (b .more) _ _ _ _ (ready-here _ _ _ _ _ _ _ (pr .1) (b .unheld) (b .idle) (b .none) _ (c
+    .before .before .before .before .first-arithmetic .ensures))
 
 enters-requires : tie.Need-enters-requires
 enters-requires c κs =
-    let st = c .before .before .before .before .before .before .before .before .args in
-    let p = st .program .now in
-    let ls = st .lines .now in
-    let is = st .inputs .now in
-    let g = st .g in
-    let rs = st .regs .now in
-    let ca = cache (st .full .now) (st .dirty .now) (st .block .now) (st .words .now) in
-    let s = st .store .now in
-    let bs = st .bytes .now in
-    let ws = st .outs .now in
-    let w = st .w in
-    let a = c .before .before .before .before .before .before .before .before .pre .0 in
-    let wd = c .before .before .before .before .before .before .before .before .pre .1 in
-    let b = c .before .before .before .before .before .before .before .before .pre .2 in
-    let u = under-at p ls is w (point g rs ca s) bs ws a wd in
-    let gd = good-under ls w g rs ca s u in
-    (few-done p ls is (a .from) g rs ca s bs ws (a .so) (b .more) .0, gd .counts)
+    let pr = c .before .before .before .before .before .before .before .before .pre in
+    let b = pr .2 in
+    let q = opens _ _ _ _ _ _ _ _ _ _ (pr .0) (pr .1) b in
+    (q .few .0, q .good .counts)
 
 same-length : tie.Need-same-length
 same-length c = search needs
@@ -255,28 +139,13 @@ returns : tie.Need-returns
 returns c =
     let c10 = c .before .before .before .before .before .before .before .before .before .before in
     let c20 = c10 .before .before .before .before .before .before .before .before .before .before in
-    let st = c20 .before .before .before .before .args in
-    let p = st .program .now in
-    let ls = st .lines .now in
-    let is = st .inputs .now in
-    let g = st .g in
-    let rs = st .regs .now in
-    let ca = cache (st .full .now) (st .dirty .now) (st .block .now) (st .words .now) in
-    let s = st .store .now in
-    let bs = st .bytes .now in
-    let ws = st .outs .now in
-    let w = st .w in
-    let wd = c20 .before .before .before .before .pre .1 in
-    let b = c20 .before .before .before .before .pre .2 in (
-      λ x₀ k. answered p ls is x₀ g rs ca s bs ws k (b .more) _ _ _ _ (ready-here p (g .scalars) rs ca s (record {
-        line = getD ls (g
-            .at) 0;
-        input = getD is (g .at) 0;
-      }) w wd (b .unheld) (b .idle) (b .none) _ (c .before .before .before .before .before .before
-          .before .before .before .first-control .ensures)) _ _ _ (c .before .before .before .before .went .ensures .0) (c .before .before
-          .before .before .went .ensures .1) (c .before .before .before .before .went .ensures .2),
-      rw (c .before .before .before .before
-          .went .ensures .0) (omega arith),
+    let pr = c20 .before .before .before .before .pre in
+    let b = pr .2 in (
+      λ x₀ k. answered _ _ _ x₀ _ _ _ _ _ _ k (b .more) _ _ _ _ (ready-here _ _ _ _ _ _ _ (pr .1) (b .unheld) (b .idle) (b .none) _
+          (c .before .before .before .before .before .before .before .before .before .first-control .ensures)) _ _ _ (c .before .before
+          .before .before .went .ensures .0) (c .before .before .before .before .went .ensures .1) (c .before .before .before .before
+          .went .ensures .2),
+      rw (c .before .before .before .before .went .ensures .0) (omega arith),
     )
 
 same-length-4 : tie.Need-same-length-4
@@ -304,28 +173,13 @@ returns-3 : tie.Need-returns-3
 returns-3 c =
     let c10 = c .before .before .before .before .before .before .before .before .before .before in
     let c20 = c10 .before .before .before .before .before .before .before .before .before .before in
-    let st = c20 .before .before .before .before .args in
-    let p = st .program .now in
-    let ls = st .lines .now in
-    let is = st .inputs .now in
-    let g = st .g in
-    let rs = st .regs .now in
-    let ca = cache (st .full .now) (st .dirty .now) (st .block .now) (st .words .now) in
-    let s = st .store .now in
-    let bs = st .bytes .now in
-    let ws = st .outs .now in
-    let w = st .w in
-    let wd = c20 .before .before .before .before .pre .1 in
-    let b = c20 .before .before .before .before .pre .2 in (
-      λ x₀ k. answered p ls is x₀ g rs ca s bs ws k (b .more) _ _ _ _ (ready-here p (g .scalars) rs ca s (record {
-        line = getD ls (g
-            .at) 0;
-        input = getD is (g .at) 0;
-      }) w wd (b .unheld) (b .idle) (b .none) _ (c .before .before .before .before .before .before
-          .before .before .before .first-store .ensures)) _ _ _ (c .before .before .before .before .went2 .ensures .0) (c .before .before
-          .before .before .went2 .ensures .1) (c .before .before .before .before .went2 .ensures .2),
-      rw (c .before .before .before
-          .before .went2 .ensures .0) (omega arith),
+    let pr = c20 .before .before .before .before .pre in
+    let b = pr .2 in (
+      λ x₀ k. answered _ _ _ x₀ _ _ _ _ _ _ k (b .more) _ _ _ _ (ready-here _ _ _ _ _ _ _ (pr .1) (b .unheld) (b .idle) (b .none) _
+          (c .before .before .before .before .before .before .before .before .before .first-store .ensures)) _ _ _ (c .before .before
+          .before .before .went2 .ensures .0) (c .before .before .before .before .went2 .ensures .1) (c .before .before .before .before
+          .went2 .ensures .2),
+      rw (c .before .before .before .before .went2 .ensures .0) (omega arith),
     )
 
 same-length-10 : tie.Need-same-length-10
@@ -334,8 +188,8 @@ same-length-10 c = search needs
 returns-4 : tie.Need-returns-4
 returns-4 c =
     let c10 = c .before .before .before .before .before .before .before .before .before .before in
-    let wd = c10 .before .before .before .before .pre .1 in
-    (λ x₀ k. c .branch .ensures .0 _ _ _ _ x₀ wd k, c .branch .ensures .1)
+    let pr = c10 .before .before .before .before .pre in
+    (λ x₀ k. c .branch .ensures .0 _ _ _ _ x₀ (pr .1) k, c .branch .ensures .1)
 
 same-length-11 : tie.Need-same-length-11
 same-length-11 c = search needs
@@ -350,52 +204,23 @@ returns-5 : tie.Need-returns-5
 returns-5 c =
     let c10 = c .before .before .before .before .before .before .before .before .before .before in
     let c20 = c10 .before .before .before .before .before .before .before .before .before .before in
-    let st = c20 .before .before .before .before .before .args in
-    let p = st .program .now in
-    let ls = st .lines .now in
-    let is = st .inputs .now in
-    let g = st .g in
-    let rs = st .regs .now in
-    let ca = cache (st .full .now) (st .dirty .now) (st .block .now) (st .words .now) in
-    let s = st .store .now in
-    let bs = st .bytes .now in
-    let ws = st .outs .now in
-    let w = st .w in
-    let wd = c20 .before .before .before .before .before .pre .1 in
-    let b = c20 .before .before .before .before .before .pre .2 in (
-      λ x₀ k. answered p ls is x₀ g rs ca s bs ws k (b .more) _ _ _ _ (ready-here p (g .scalars) rs ca s (record {
-        line = getD ls (g
-            .at) 0;
-        input = getD is (g .at) 0;
-      }) w wd (b .unheld) (b .idle) (b .none) _ (c .before .before .before .before .before .before
-          .before .before .before .first-arithmetic .ensures)) _ _ _ (c .before .before .before .before .went3 .ensures .0) (c .before
-          .before .before .before .went3 .ensures .1) (c .before .before .before .before .went3 .ensures .2),
-      rw (c .before .before
-          .before .before .went3 .ensures .0) (omega arith),
+    let pr = c20 .before .before .before .before .before .pre in
+    let b = pr .2 in (
+      λ x₀ k. answered _ _ _ x₀ _ _ _ _ _ _ k (b .more) _ _ _ _ (ready-here _ _ _ _ _ _ _ (pr .1) (b .unheld) (b .idle) (b .none) _
+          (c .before .before .before .before .before .before .before .before .before .first-arithmetic .ensures)) _ _ _ (c .before .before
+          .before .before .went3 .ensures .0) (c .before .before .before .before .went3 .ensures .1) (c .before .before .before .before
+          .went3 .ensures .2),
+      rw (c .before .before .before .before .went3 .ensures .0) (omega arith),
     )
 
 returns-6 : tie.Need-returns-6
 returns-6 c =
-    let st = c .before .before .before .before .before .before .before .before .before .args in
-    let p = st .program .now in
-    let ls = st .lines .now in
-    let is = st .inputs .now in
-    let g = st .g in
-    let rs = st .regs .now in
-    let ca = cache (st .full .now) (st .dirty .now) (st .block .now) (st .words .now) in
-    let s = st .store .now in
-    let bs = st .bytes .now in
-    let ws = st .outs .now in
-    let w = st .w in
-    let a = c .before .before .before .before .before .before .before .before .before .pre .0 in
-    let wd = c .before .before .before .before .before .before .before .before .before .pre .1 in
-    let b = c .before .before .before .before .before .before .before .before .before .pre .2 in
-    let u = under-at p ls is w (point g rs ca s) bs ws a wd in
-    let gd = good-under ls w g rs ca s u in
-    let f = facts w (length s) (g .scalars) rs ca gd in
+    let pr = c .before .before .before .before .before .before .before .before .before .pre in
+    let b = pr .2 in
+    let q = opens _ _ _ _ _ _ _ _ _ _ (pr .0) (pr .1) b in
     let e = c .enters .ensures in (
-      λ x₀ k. entered _ _ _ _ _ _ b _ e (first-second w (length s) (g .scalars) rs ca f (b .idle) (kind-call w (length s) (gathered
-          (g .scalars) rs) (call-left w (c .before .if1 .left) (c .before .before .match .rest)))) _ _ _ _ x₀ wd k,
+      λ x₀ k. entered _ _ _ _ _ _ b _ e (first-second _ _ _ _ _ (q .facts) (b .idle) (kind-call _ _ _ (call-left _ (c .before .if1
+          .left) (c .before .before .match .rest)))) _ _ _ _ x₀ (pr .1) k,
       rw e (omega arith),
     )
 
