@@ -4,7 +4,7 @@
 --   answered, quiet-answered, onward-answered   the next point        room   what `went` asks        due-true, due-false   what `due` tells
 --   Opens, opens   what is known where a word begins        device-first, hit-first   of LD
 --   under-at, good-under, good-at-turn, long-turned   what a run that stands somewhere tells
---   idled, turned-from, at-from   of the loop over words
+--   idled, turned-from, at-from, long-from   of the loop over words
 --   unraised, past-raised, raised-none   what `raised` tells
 --   last-here   the clock of phase 5        entered, ended   a word's first of two clocks, and its second
 use Prim.Native.Nat.{ℕ, _+_, _/_, _%_, _≤_, _<_}
@@ -212,18 +212,24 @@ idled g r =
       finished = g .finished;
     }
 
-pub idled-same : (w n : ℕ) (g : Going) (rs : List ℕ) (ca : Cache) (r : Running) → r ≡ inPhase 0 0 → Good w n (g .scalars) rs ca
+idled-same : (w n : ℕ) (g : Going) (rs : List ℕ) (ca : Cache) (r : Running) → r ≡ inPhase 0 0 → Good w n (g .scalars) rs ca
     → g .scalars .running .phase ≡ 0 → idled g r ≡ g
 idled-same w n g rs ca r e good z =
     ap (idled g) (e ∙ sym (idle-running w n (g .scalars) rs ca (facts w n (g .scalars) rs ca good) z))
 
-module _ (p ls is : List ℕ) (g g′ : Going) (rs : List ℕ) (ca : Cache) (s bs ws : List ℕ) (same : g′ ≡ g) (q : Point)
-    (bs′ ws′ : List ℕ) where
-  pub turned-from : Turned p ls is (point g′ rs ca s) bs ws q bs′ ws′ → Turned p ls is (point g rs ca s) bs ws q bs′ ws′
-  turned-from t x₀ r = t x₀ (subst (λ y. Reached p ls is x₀ (point y rs ca s) bs ws) (sym same) r)
+module _ (p ls is : List ℕ) (g : Going) (r : Running) (rs : List ℕ) (ca : Cache) (s bs ws : List ℕ)
+    (a : At p ls is (point g rs ca s) bs ws) (b : Begins ls g) (e : r ≡ inPhase 0 0) (q : Point) (bs′ ws′ : List ℕ)
+    (t : Turned p ls is (point (idled g r) rs ca s) bs ws q bs′ ws′) where
+  pub turned-from : Turned p ls is (point g rs ca s) bs ws q bs′ ws′
+  turned-from x₀ k = t x₀ (subst (λ y. Reached p ls is x₀ (point y rs ca s) bs ws)
+      (sym (idled-same (wordAt p (g .scalars .pc)) (length s) g rs ca r e
+      (good-at-turn p ls is (wordAt p (g .scalars .pc)) g rs ca s bs ws a refl) (b .idle))) k)
 
-  pub at-from : Turned p ls is (point g′ rs ca s) bs ws q bs′ ws′ → At p ls is (point g rs ca s) bs ws → At p ls is q bs′ ws′
-  at-from t a = record { from = a .from; so = turned-from t (a .from) (a .so) }
+  pub at-from : At p ls is q bs′ ws′
+  at-from = record { from = a .from; so = turned-from (a .from) (a .so) }
+
+  pub long-from : Long (point g rs ca s) bs ws q bs′ ws′
+  long-from = long-turned p ls is (point g rs ca s) bs ws q bs′ ws′ a turned-from
 
 -- what `raised` tells
 pub unraised : (t : Bool) (x : ℕ) (r : Bool) → r ≡ (t || not (eqb x 0)) → r ≡ false → (t ≡ false) × (x ≡ 0)

@@ -1,11 +1,16 @@
 -- The proof of trm_turns::inner::ready::ready_turn.
+use Rattle.trm_turns.proofs.Laws.Next.{turned-from, at-from, long-from, unraised, past-raised}
+use Prim.Native.Nat.{_-_, _≤_}
+use mathlib.Core.Path.{_≡_, refl, ap}
+use Rattle.trm_ahead.proofs.Laws.Here.{ready-here}
+use Rattle.trm_turns.proofs.Laws.Next.{quiet-answered, few-done}
+use Rattle.trm_turns.proofs.Laws.Next.{phase, good-at-turn}
 use Rattle.trm_core.specs.declared.record.Running.{Running}
 use Rattle.trm_ahead.specs.declared.inner.going.Going.{Going}
 use Rattle.trm_ahead.specs.Reached.{point, Turned}
 use Rattle.trm_reference.specs.Interrupt.{interruptChosen}
 use Rattle.trm_plan.proofs.Laws.Kinds.{unstepped-of, kind-short}
 use Rattle.trm_plan.proofs.Laws.Plans.{first-quick, idle-running}
-use Rattle.trm_turns.proofs.Laws.Next.{idled-same, turned-from, at-from, unraised, past-raised}
 use native.Mathlib.Omega.{arith}
 use Prim.Native.Nat.{_-_, _≤_}
 use mathlib.Core.Path.{_≡_, refl, ap}
@@ -16,8 +21,6 @@ use Rattle.trm_plan.proofs.Laws.Facts.{facts}
 use Rattle.trm_clock.proofs.Laws.Worked.{ends-worked}
 use Rattle.trm_clock.proofs.Laws.Words.{shows, other-made}
 use Rattle.trm_ahead.proofs.Laws.Here.{ready-here}
-use Rattle.trm_turns.proofs.Laws.Next.{quiet-answered, few-done}
-use Rattle.trm_turns.proofs.Laws.Next.{phase, good-at-turn, long-turned}
 use borrow.Author.Needs.{needs}
 use Rattle.trm_turns.proofs.inner.ready.ready_turn.Statement.{statement}
 use Rattle.trm_turns.proofs.inner.ready.ready_turn.Tie as tie
@@ -50,10 +53,8 @@ same-length c =
     let a = c10 .before .before .before .before .pre .0 in
     let b = c10 .before .before .before .before .pre .1 in
     let n = c .before .before .before .before .before .loop .inv in
-    let gd0 = good-at-turn _ _ _ _ _ _ _ _ _ _ a refl in
-    let same = idled-same _ _ (c10 .before .before .before .before .args .g) _ _ (c .before .before .before .before .before .before
-    .in-phase .result) (c .before .before .before .before .before .before .in-phase .ensures) gd0 (b .idle) in
-    long-turned _ _ _ _ _ _ _ _ _ a (turned-from _ _ _ _ _ _ _ _ _ _ same _ _ _ (n .0)) .store
+    let e = c .before .before .before .before .before .before .in-phase .ensures in
+    long-from _ _ _ (c10 .before .before .before .before .args .g) _ _ _ _ _ _ a b e _ _ _ (n .0) .store
 
 same-length-2 : tie.Need-same-length-2 Inv-loop μ-loop
 same-length-2 c =
@@ -61,10 +62,8 @@ same-length-2 c =
     let a = c10 .before .before .before .before .pre .0 in
     let b = c10 .before .before .before .before .pre .1 in
     let n = c .before .before .before .before .before .loop .inv in
-    let gd0 = good-at-turn _ _ _ _ _ _ _ _ _ _ a refl in
-    let same = idled-same _ _ (c10 .before .before .before .before .args .g) _ _ (c .before .before .before .before .before .before
-    .in-phase .result) (c .before .before .before .before .before .before .in-phase .ensures) gd0 (b .idle) in
-    long-turned _ _ _ _ _ _ _ _ _ a (turned-from _ _ _ _ _ _ _ _ _ _ same _ _ _ (n .0)) .bytes
+    let e = c .before .before .before .before .before .before .in-phase .ensures in
+    long-from _ _ _ (c10 .before .before .before .before .args .g) _ _ _ _ _ _ a b e _ _ _ (n .0) .bytes
 
 same-length-3 : tie.Need-same-length-3 Inv-loop μ-loop
 same-length-3 c =
@@ -72,10 +71,8 @@ same-length-3 c =
     let a = c10 .before .before .before .before .pre .0 in
     let b = c10 .before .before .before .before .pre .1 in
     let n = c .before .before .before .before .before .loop .inv in
-    let gd0 = good-at-turn _ _ _ _ _ _ _ _ _ _ a refl in
-    let same = idled-same _ _ (c10 .before .before .before .before .args .g) _ _ (c .before .before .before .before .before .before
-    .in-phase .result) (c .before .before .before .before .before .before .in-phase .ensures) gd0 (b .idle) in
-    long-turned _ _ _ _ _ _ _ _ _ a (turned-from _ _ _ _ _ _ _ _ _ _ same _ _ _ (n .0)) .words
+    let e = c .before .before .before .before .before .before .in-phase .ensures in
+    long-from _ _ _ (c10 .before .before .before .before .args .g) _ _ _ _ _ _ a b e _ _ _ (n .0) .words
 
 returns : tie.Need-returns Inv-loop μ-loop
 returns c =
@@ -83,14 +80,12 @@ returns c =
     let a = c10 .before .before .before .before .pre .0 in
     let b = c10 .before .before .before .before .pre .1 in
     let n = c .before .before .before .before .before .loop .inv in
-    let gd0 = good-at-turn _ _ _ _ _ _ _ _ _ _ a refl in
-    let same = idled-same _ _ (c10 .before .before .before .before .args .g) _ _ (c .before .before .before .before .before .before
-    .in-phase .result) (c .before .before .before .before .before .before .in-phase .ensures) gd0 (b .idle) in (
-      turned-from _ _ _ _ _ _ _ _ _ _ same _ _ _ (n .0),
-      past-raised (c10 .before .before .before .before .args .lines .now) (c10
-          .before .before .before .before .args .g) (c .before .before .before .before .before .loop .h .at) (c .before .before .before
-          .before .before .loop .h .scalars .status) (c .before .raised .result) b (n .2) (n .3) (c .before .raised .ensures) (c .if2
-          .taken),
+    let e = c .before .before .before .before .before .before .in-phase .ensures in (
+      turned-from _ _ _ (c10 .before .before .before .before .args .g) _ _ _ _ _ _ a b e _ _ _ (n .0),
+      past-raised (c10 .before
+          .before .before .before .args .lines .now) (c10 .before .before .before .before .args .g) (c .before .before .before .before
+          .before .loop .h .at) (c .before .before .before .before .before .loop .h .scalars .status) (c .before .raised .result) b (n .2)
+          (n .3) (c .before .raised .ensures) (c .if2 .taken),
     )
 
 word-at-requires : tie.Need-word-at-requires Inv-loop μ-loop
@@ -102,11 +97,8 @@ short-requires c κs =
     let a = c10 .before .before .before .before .before .before .before .pre .0 in
     let b = c10 .before .before .before .before .before .before .before .pre .1 in
     let n = c .before .before .before .before .before .before .before .before .loop .inv in
-    let gd0 = good-at-turn _ _ _ _ _ _ _ _ _ _ a refl in
-    let same = idled-same _ _ (c10 .before .before .before .before .before .before .before .args .g) _ _ (c .before .before .before
-    .before .before .before .before .before .before .in-phase .result) (c .before .before .before .before .before .before .before
-    .before .before .in-phase .ensures) gd0 (b .idle) in
-    let ah = at-from _ _ _ _ _ _ _ _ _ _ same _ _ _ (n .0) a in
+    let e = c .before .before .before .before .before .before .before .before .before .in-phase .ensures in
+    let ah = at-from _ _ _ (c10 .before .before .before .before .before .before .before .args .g) _ _ _ _ _ _ a b e _ _ _ (n .0) in
     let gd = good-at-turn _ _ _ _ _ _ _ _ _ _ ah (c .before .before .word-at .ensures) in
     let f = facts _ _ _ _ _ gd in (
       gd .widths,
@@ -123,10 +115,9 @@ quietly-requires c κs =
     let a = c10 .before .before .before .before .before .before .before .before .pre .0 in
     let b = c10 .before .before .before .before .before .before .before .before .pre .1 in
     let n = c .before .before .before .before .before .before .before .before .before .loop .inv in
-    let gd0 = good-at-turn _ _ _ _ _ _ _ _ _ _ a refl in
-    let same = idled-same _ _ (c10 .before .before .before .before .before .before .before .before .args .g) _ _ (c10 .in-phase
-    .result) (c10 .in-phase .ensures) gd0 (b .idle) in
-    let ah = at-from _ _ _ _ _ _ _ _ _ _ same _ _ _ (n .0) a in
+    let e = c10 .in-phase .ensures in
+    let ah = at-from _ _ _ (c10 .before .before .before .before .before .before .before .before .args .g) _ _ _ _ _ _ a b e _ _ _ (n
+    .0) in
     let k = few-done _ _ _ _ _ _ _ _ _ _ (ah .so) (c .before .before .before .before .before .before .before .if1 .taken) in
     (k .0, k .1, omega arith)
 
@@ -140,10 +131,9 @@ loop-again c =
     let a = c10 .before .before .before .before .before .before .before .before .before .pre .0 in
     let b = c10 .before .before .before .before .before .before .before .before .before .pre .1 in
     let n = c10 .loop .inv in
-    let gd0 = good-at-turn _ _ _ _ _ _ _ _ _ _ a refl in
-    let same = idled-same _ _ (c10 .before .before .before .before .before .before .before .before .before .args .g) _ _ (c10
-    .before .in-phase .result) (c10 .before .in-phase .ensures) gd0 (b .idle) in
-    let ah = at-from _ _ _ _ _ _ _ _ _ _ same _ _ _ (n .0) a in
+    let e = c10 .before .in-phase .ensures in
+    let ah = at-from _ _ _ (c10 .before .before .before .before .before .before .before .before .before .args .g) _ _ _ _ _ _ a b e
+    _ _ _ (n .0) in
     let y = unraised (stalled (getD (c10 .before .before .before .before .before .before .before .before .before .args .lines .now)
     (c10 .loop .h .at) 0)) (interruptChosen (c10 .loop .h .scalars .status) (getD (c10 .before .before .before .before .before
     .before .before .before .before .args .lines .now) (c10 .loop .h .at) 0)) (c .before .before .before .before .before .before
@@ -179,10 +169,8 @@ begin-requires c κs =
     let a = c20 .before .before .before .before .pre .0 in
     let b = c20 .before .before .before .before .pre .1 in
     let n = c10 .before .before .before .before .before .loop .inv in
-    let gd0 = good-at-turn _ _ _ _ _ _ _ _ _ _ a refl in
-    let same = idled-same _ _ (c20 .before .before .before .before .args .g) _ _ (c10 .before .before .before .before .before
-    .before .in-phase .result) (c10 .before .before .before .before .before .before .in-phase .ensures) gd0 (b .idle) in
-    let ah = at-from _ _ _ _ _ _ _ _ _ _ same _ _ _ (n .0) a in
+    let e = c10 .before .before .before .before .before .before .in-phase .ensures in
+    let ah = at-from _ _ _ (c20 .before .before .before .before .args .g) _ _ _ _ _ _ a b e _ _ _ (n .0) in
     let y = unraised (stalled (getD (c20 .before .before .before .before .args .lines .now) (c10 .before .before .before .before
     .before .loop .h .at) 0)) (interruptChosen (c10 .before .before .before .before .before .loop .h .scalars .status) (getD (c20
     .before .before .before .before .args .lines .now) (c10 .before .before .before .before .before .loop .h .at) 0)) (c10 .before
@@ -211,11 +199,9 @@ same-length-4 c =
     let a = c30 .before .before .before .pre .0 in
     let b = c30 .before .before .before .pre .1 in
     let n = c20 .before .before .before .before .loop .inv in
-    let gd0 = good-at-turn _ _ _ _ _ _ _ _ _ _ a refl in
-    let same = idled-same _ _ (c30 .before .before .before .args .g) _ _ (c20 .before .before .before .before .before .in-phase
-    .result) (c20 .before .before .before .before .before .in-phase .ensures) gd0 (b .idle) in
-    long-turned _ _ _ _ _ _ _ _ _ a (turned-from _ _ _ _ _ _ _ _ _ _ same _ _ _ ((λ x₀ k. c .before .before .before .before .before
-    .before .before .before .begin .ensures .0 x₀ (n .0 x₀ k)))) .store
+    let e = c20 .before .before .before .before .before .in-phase .ensures in
+    long-from _ _ _ (c30 .before .before .before .args .g) _ _ _ _ _ _ a b e _ _ _ ((λ x₀ k. c .before .before .before .before
+    .before .before .before .before .begin .ensures .0 x₀ (n .0 x₀ k))) .store
 
 same-length-5 : tie.Need-same-length-5 Inv-loop μ-loop
 same-length-5 c =
@@ -225,11 +211,9 @@ same-length-5 c =
     let a = c30 .before .before .before .pre .0 in
     let b = c30 .before .before .before .pre .1 in
     let n = c20 .before .before .before .before .loop .inv in
-    let gd0 = good-at-turn _ _ _ _ _ _ _ _ _ _ a refl in
-    let same = idled-same _ _ (c30 .before .before .before .args .g) _ _ (c20 .before .before .before .before .before .in-phase
-    .result) (c20 .before .before .before .before .before .in-phase .ensures) gd0 (b .idle) in
-    long-turned _ _ _ _ _ _ _ _ _ a (turned-from _ _ _ _ _ _ _ _ _ _ same _ _ _ ((λ x₀ k. c .before .before .before .before .before
-    .before .before .before .begin .ensures .0 x₀ (n .0 x₀ k)))) .bytes
+    let e = c20 .before .before .before .before .before .in-phase .ensures in
+    long-from _ _ _ (c30 .before .before .before .args .g) _ _ _ _ _ _ a b e _ _ _ ((λ x₀ k. c .before .before .before .before
+    .before .before .before .before .begin .ensures .0 x₀ (n .0 x₀ k))) .bytes
 
 same-length-6 : tie.Need-same-length-6 Inv-loop μ-loop
 same-length-6 c =
@@ -239,11 +223,9 @@ same-length-6 c =
     let a = c30 .before .before .before .pre .0 in
     let b = c30 .before .before .before .pre .1 in
     let n = c20 .before .before .before .before .loop .inv in
-    let gd0 = good-at-turn _ _ _ _ _ _ _ _ _ _ a refl in
-    let same = idled-same _ _ (c30 .before .before .before .args .g) _ _ (c20 .before .before .before .before .before .in-phase
-    .result) (c20 .before .before .before .before .before .in-phase .ensures) gd0 (b .idle) in
-    long-turned _ _ _ _ _ _ _ _ _ a (turned-from _ _ _ _ _ _ _ _ _ _ same _ _ _ ((λ x₀ k. c .before .before .before .before .before
-    .before .before .before .begin .ensures .0 x₀ (n .0 x₀ k)))) .words
+    let e = c20 .before .before .before .before .before .in-phase .ensures in
+    long-from _ _ _ (c30 .before .before .before .args .g) _ _ _ _ _ _ a b e _ _ _ ((λ x₀ k. c .before .before .before .before
+    .before .before .before .before .begin .ensures .0 x₀ (n .0 x₀ k))) .words
 
 returns-2 : tie.Need-returns-2 Inv-loop μ-loop
 returns-2 c =
@@ -253,16 +235,14 @@ returns-2 c =
     let a = c30 .before .before .before .pre .0 in
     let b = c30 .before .before .before .pre .1 in
     let n = c20 .before .before .before .before .loop .inv in
-    let gd0 = good-at-turn _ _ _ _ _ _ _ _ _ _ a refl in
-    let same = idled-same _ _ (c30 .before .before .before .args .g) _ _ (c20 .before .before .before .before .before .in-phase
-    .result) (c20 .before .before .before .before .before .in-phase .ensures) gd0 (b .idle) in (
-      turned-from _ _ _ _ _ _ _ _ _ _ same _ _ _ (λ x₀ k. c .before .before .before .before .before .before .before .before .begin
-          .ensures .0 x₀ (n .0 x₀ k)),
+    let e = c20 .before .before .before .before .before .in-phase .ensures in (
+      turned-from _ _ _ (c30 .before .before .before .args .g) _ _ _ _ _ _ a b e _ _ _ (λ x₀ k. c .before .before .before .before
+          .before .before .before .before .begin .ensures .0 x₀ (n .0 x₀ k)),
       omega (
         arith,
         n .2,
-        c .before .before .before .before .before .before .before .before .begin
-            .ensures .1,
+        c .before .before .before .before
+            .before .before .before .before .begin .ensures .1,
       ),
     )
 
@@ -295,10 +275,8 @@ same-length-7 c =
     let a = c10 .before .pre .0 in
     let b = c10 .before .pre .1 in
     let n = c .before .before .loop .inv in
-    let gd0 = good-at-turn _ _ _ _ _ _ _ _ _ _ a refl in
-    let same = idled-same _ _ (c10 .before .args .g) _ _ (c .before .before .before .in-phase .result) (c .before .before .before
-    .in-phase .ensures) gd0 (b .idle) in
-    long-turned _ _ _ _ _ _ _ _ _ a (turned-from _ _ _ _ _ _ _ _ _ _ same _ _ _ (n .0)) .store
+    let e = c .before .before .before .in-phase .ensures in
+    long-from _ _ _ (c10 .before .args .g) _ _ _ _ _ _ a b e _ _ _ (n .0) .store
 
 same-length-8 : tie.Need-same-length-8 Inv-loop μ-loop
 same-length-8 c =
@@ -306,10 +284,8 @@ same-length-8 c =
     let a = c10 .before .pre .0 in
     let b = c10 .before .pre .1 in
     let n = c .before .before .loop .inv in
-    let gd0 = good-at-turn _ _ _ _ _ _ _ _ _ _ a refl in
-    let same = idled-same _ _ (c10 .before .args .g) _ _ (c .before .before .before .in-phase .result) (c .before .before .before
-    .in-phase .ensures) gd0 (b .idle) in
-    long-turned _ _ _ _ _ _ _ _ _ a (turned-from _ _ _ _ _ _ _ _ _ _ same _ _ _ (n .0)) .bytes
+    let e = c .before .before .before .in-phase .ensures in
+    long-from _ _ _ (c10 .before .args .g) _ _ _ _ _ _ a b e _ _ _ (n .0) .bytes
 
 same-length-9 : tie.Need-same-length-9 Inv-loop μ-loop
 same-length-9 c =
@@ -317,10 +293,8 @@ same-length-9 c =
     let a = c10 .before .pre .0 in
     let b = c10 .before .pre .1 in
     let n = c .before .before .loop .inv in
-    let gd0 = good-at-turn _ _ _ _ _ _ _ _ _ _ a refl in
-    let same = idled-same _ _ (c10 .before .args .g) _ _ (c .before .before .before .in-phase .result) (c .before .before .before
-    .in-phase .ensures) gd0 (b .idle) in
-    long-turned _ _ _ _ _ _ _ _ _ a (turned-from _ _ _ _ _ _ _ _ _ _ same _ _ _ (n .0)) .words
+    let e = c .before .before .before .in-phase .ensures in
+    long-from _ _ _ (c10 .before .args .g) _ _ _ _ _ _ a b e _ _ _ (n .0) .words
 
 returns-3 : tie.Need-returns-3 Inv-loop μ-loop
 returns-3 c =
@@ -328,10 +302,8 @@ returns-3 c =
     let a = c10 .before .pre .0 in
     let b = c10 .before .pre .1 in
     let n = c .before .before .loop .inv in
-    let gd0 = good-at-turn _ _ _ _ _ _ _ _ _ _ a refl in
-    let same = idled-same _ _ (c10 .before .args .g) _ _ (c .before .before .before .in-phase .result) (c .before .before .before
-    .in-phase .ensures) gd0 (b .idle) in
-    (turned-from _ _ _ _ _ _ _ _ _ _ same _ _ _ (n .0), omega (arith, b .more, c .if1 .left))
+    let e = c .before .before .before .in-phase .ensures in
+    (turned-from _ _ _ (c10 .before .args .g) _ _ _ _ _ _ a b e _ _ _ (n .0), omega (arith, b .more, c .if1 .left))
 
 pub ready-turn-spec : {M : Type 1} → statement M
 ready-turn-spec =
