@@ -1,0 +1,21 @@
+-- The proof of trm_image::inner::bytes::byte_at.
+use lib.ListN.{List·getD-eq-default}
+use native.Mathlib.Omega.{arith}
+use mathlib.Core.Path.{sym}
+use borrow.Author.Needs.{needs}
+use Rattle.trm_image.proofs.inner.bytes.byte_at.Statement.{statement}
+use Rattle.trm_image.proofs.inner.bytes.byte_at.Tie as tie
+use Rattle.trm_image.proofs.inner.bytes.byte_at.Reads as reads
+use Rattle.trm_image.proofs.inner.bytes.byte_at.Lts as lts
+
+shared-slice-read-result : tie.Need-shared-slice-read-result
+shared-slice-read-result c = search needs
+
+returns : tie.Need-returns
+returns c = search needs
+
+returns-2 : tie.Need-returns-2
+returns-2 c = sym (List·getD-eq-default (c .before .args .s .now) 0 {n = c .before .args .at} (c .if1 .left))
+
+pub byte-at-spec : {M : Type 1} → statement M
+byte-at-spec = tie.close (tie.spec shared-slice-read-result returns returns-2)

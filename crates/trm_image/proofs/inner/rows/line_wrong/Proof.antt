@@ -1,0 +1,35 @@
+-- The proof of trm_image::inner::rows::line_wrong.
+use Rattle.trm_image.specs.Refused.{lineWrong}
+use borrow.Author.Tests.{eq-eqb, ne-eqb}
+use borrow.Author.Needs.{needs}
+use Rattle.trm_image.proofs.inner.rows.line_wrong.Statement.{statement}
+use Rattle.trm_image.proofs.inner.rows.line_wrong.Tie as tie
+use Rattle.trm_image.proofs.inner.rows.line_wrong.Reads as reads
+use Rattle.trm_image.proofs.inner.rows.line_wrong.Lts as lts
+use Rattle.trm_image.proofs.inner.bytes.byte_at.Reads as byte-at-reads
+use Rattle.trm_image.proofs.inner.bytes.half_at.Reads as half-at-reads
+
+add-half-at : tie.Need-add-half-at
+add-half-at c = search needs
+
+half-at-requires : tie.Need-half-at-requires
+half-at-requires c κs = search needs
+
+returns : tie.Need-returns
+unfolding lineWrong
+returns c = rw (← c .before .half-at .ensures, ne-eqb _ 3 (c .if1 .taken))
+
+add-byte-at : tie.Need-add-byte-at
+add-byte-at c = search needs
+
+byte-at-requires : tie.Need-byte-at-requires
+byte-at-requires c κs = search needs
+
+returns-2 : tie.Need-returns-2
+unfolding lineWrong
+returns-2 c = rw (← c .before .before .half-at .ensures, eq-eqb _ 3 (c .before .if1 .left), ← c .byte-at .ensures)
+
+pub line-wrong-spec : {M : Type 1} → statement M
+line-wrong-spec =
+    tie.close
+    (tie.spec add-half-at half-at-requires returns add-byte-at byte-at-requires returns-2)

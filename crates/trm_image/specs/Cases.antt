@@ -1,0 +1,3 @@
+-- Images whose refusal is computed here.
+-- Paper: the example of "Images and the listing program"; one image for each row.
+-- Assumes nothing.

@@ -1,0 +1,68 @@
+-- What the check ensures, and what is claimed of images beside the contracts: one statement to a field.
+-- Paper: "Images and the listing program"; "the first fault counts". The value is in proofs/Theorems.antt.
+-- Assumes nothing.
+use Prim.{Unit}
+use Prim.Native.Nat.{ℕ, _≤_, _<_}
+use mathlib.Core.Path.{_≡_}
+use mathlib.Core.Logic.{_≢_}
+use mathlib.Core.Bool.{Bool, true, false}
+use mathlib.Core.List.{List, [], _∷_, _++_}
+use lib.ListN.{length}
+use Rattle.trm_core.specs.Refusals.{allAtMost}
+use Rattle.trm_word.specs.Address.{storeLengthOk}
+use Rattle.trm_image.specs.declared.fault.Checked.{Checked}
+use Rattle.trm_image.specs.Numbers.{numberOf}
+use Rattle.trm_image.specs.Records.{kindAt, recordsOf}
+use Rattle.trm_image.specs.Refused.{faultAt, imageFault}
+use Rattle.trm_image.specs.Meaning.{imageOf}
+use Rattle.trm_image.specs.Written.{imageBytes, Meant}
+
+-- the contract of `check`, n being the store's length in words and s the image
+pub record CheckHolds (n : ℕ) (s : List ℕ) (r : Checked) : Type 0 where
+  pub number : numberOf (r .fault) ≡ imageFault n s .number
+  pub at : r .at ≡ imageFault n s .at
+
+-- the kind of the last record that begins at one of these places, 0 if there is none
+unfoldable pub lastKind : List ℕ → ℕ → List ℕ → ℕ
+lastKind s before [] = before
+lastKind s before (at ∷ more) = lastKind s (kindAt s at) more
+
+-- none of these records is at fault
+unfoldable pub Faultless : ℕ → List ℕ → ℕ → List ℕ → Type 0
+Faultless n s before [] = Unit {0}
+Faultless n s before (at ∷ more) = (faultAt n s before at ≡ 0) × Faultless n s (kindAt s at) more
+
+-- "the first fault counts": the records before it have none, it is the next record, and its number is the first row that it fails
+pub record FirstFault (n : ℕ) (s : List ℕ) (number at : ℕ) : Type 0 where
+  pub before : List ℕ
+  pub after : List ℕ
+  pub records : recordsOf s ≡ before ++ at ∷ after
+  pub faultless : Faultless n s 0 before
+  pub fault : faultAt n s (lastKind s 0 before) at ≡ number
+
+-- Why an image is refused: it is too long, or empty, or has a first fault, or is for a store that there is not.
+pub data Why (n : ℕ) (s : List ℕ) (number at : ℕ) : Type 0 where
+  too-long : 65536 < length s → number ≡ 1 → at ≡ 0 → Why n s number at
+  empty : s ≡ [] → number ≡ 2 → at ≡ 0 → Why n s number at
+  faulty : FirstFault n s number at → Why n s number at
+  no-store : Faultless n s 0 (recordsOf s) → storeLengthOk n ≡ false → number ≡ 4 → at ≡ 0 → Why n s number at
+
+abbrev pub RefusedFirst : Type 0
+RefusedFirst = (n : ℕ) (s : List ℕ) → imageFault n s .number ≢ 0 → Why n s (imageFault n s .number) (imageFault n s .at)
+
+-- What is accepted is the bytes of a program, first data words and runs, as the paper describes them; `imageOf` reads them.
+pub record Described (n : ℕ) (s : List ℕ) : Type 0 where
+  pub second : Bool
+  pub bytes : s ≡ imageBytes second (imageOf s)
+  pub meant : Meant n (imageOf s)
+  pub none : second ≡ false → imageOf s .first ≡ []
+  pub small : length s ≤ 65536
+  pub store : storeLengthOk n ≡ true
+
+abbrev pub AcceptedDescribed : Type 0
+AcceptedDescribed =
+    (n : ℕ) (s : List ℕ) → allAtMost 255 s ≡ true → imageFault n s .number ≡ 0 → Described n s
+
+pub record Claims : Type 0 where
+  pub refused-first : RefusedFirst
+  pub accepted-described : AcceptedDescribed
