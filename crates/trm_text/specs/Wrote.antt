@@ -1,0 +1,13 @@
+-- Text put into a buffer behind what is there. A term of inner contracts, on which no claim rests.
+-- Paper: none; the contract of each function that writes.
+-- Assumes nothing.
+use Prim.Native.Nat.{ℕ, _+_}
+use mathlib.Core.Path.{_≡_}
+use mathlib.Core.List.{List, _++_}
+use lib.ListN.{length, take}
+
+-- the buffer was `old`, filled up to `at`; now it is `new`, filled up to `end`, ys being behind what was there
+pub record Wrote (old : List ℕ) (at : ℕ) (ys new : List ℕ) (end : ℕ) : Type 0 where
+  pub text : take end new ≡ take at old ++ ys
+  pub next : end ≡ at + length ys
+  pub long : length new ≡ length old

@@ -1,0 +1,88 @@
+// Whole lines, put into a buffer; each asks for the room of the longest.
+// Paper: "Fields: clock count at the end, address and word .., unheld clocks, the counts in decimal".
+// What they hold is in specs/Lines.antt.
+ghost use mathlib.Core.Path.{_≡_};
+ghost use Prim.Native.Nat.{_+_, _≤_, _<_};
+ghost use lib.ListN.{length};
+ghost use Rattle.trm_text.specs.Lines.{header, word, irq, lineBytes, endBytes, refusedBytes};
+ghost use Rattle.trm_text.specs.Wrote.{Wrote};
+use crate::inner::numbers;
+
+// The bytes of a list.
+fn put_text(buf: &mut [u8], at: usize, text: &[u8]) -> usize
+    requires { ⌜ at + length (now text) ≤ length (now buf) ⌝ }
+    ensures { λ r. ⌜ Wrote (now (buf .entry)) at (now (text .entry)) (now (buf .exit)) r × (r ≡ at + length (now (text .entry))) ⌝ }
+{
+    let mut i: usize = 0;
+    while i < text.len() {
+        buf[at + i] = text[i];
+        i += 1;
+    }
+    at + i
+}
+
+// A word carried out.
+pub fn put_word_line(buf: &mut [u8], at: usize, clock: u64, pc: u64, w: u32, took: u64) -> usize
+    requires { ⌜ at + 32 ≤ length (now buf) ⌝ }
+    ensures { λ r. ⌜ Wrote (now (buf .entry)) at (lineBytes (record { clock = clock; at = pc; shown = word w; took = took }))
+        (now (buf .exit)) r × (r ≤ at + 32) ⌝ }
+{
+    let a = numbers::put_decimal(buf, at, clock);
+    let b = numbers::put_byte(buf, a, 32);
+    let c = numbers::put_hex(buf, b, 3, pc);
+    let d = numbers::put_byte(buf, c, 32);
+    let e = numbers::put_hex(buf, d, 5, w as u64);
+    let f = numbers::put_byte(buf, e, 32);
+    let g = numbers::put_decimal(buf, f, took);
+    numbers::put_byte(buf, g, 10)
+}
+
+// An interrupt.
+pub fn put_interrupt_line(buf: &mut [u8], at: usize, clock: u64, pc: u64, line: u8) -> usize
+    requires { ⌜ (at + 32 ≤ length (now buf)) × (line < 8) ⌝ }
+    ensures { λ r. ⌜ Wrote (now (buf .entry)) at (lineBytes (record { clock = clock; at = pc; shown = irq line; took = 1 }))
+        (now (buf .exit)) r × (r ≤ at + 32) ⌝ }
+{
+    let a = numbers::put_decimal(buf, at, clock);
+    let b = numbers::put_byte(buf, a, 32);
+    let c = numbers::put_hex(buf, b, 3, pc);
+    let d = numbers::put_byte(buf, c, 32);
+    let e = put_text(buf, d, b"irq");
+    let f = numbers::put_byte(buf, e, 48 + line);
+    let g = numbers::put_byte(buf, f, 32);
+    let h = numbers::put_decimal(buf, g, 1);
+    numbers::put_byte(buf, h, 10)
+}
+
+pub fn put_header(buf: &mut [u8], at: usize) -> usize
+    requires { ⌜ at + 19 ≤ length (now buf) ⌝ }
+    ensures { λ r. ⌜ Wrote (now (buf .entry)) at header (now (buf .exit)) r × (r ≡ at + 19) ⌝ }
+{
+    put_text(buf, at, b"clock at word took\n")
+}
+
+pub fn put_end(buf: &mut [u8], at: usize, clocks: u64, held: u64, refills: u64, writebacks: u64) -> usize
+    requires { ⌜ at + 80 ≤ length (now buf) ⌝ }
+    ensures { λ r. ⌜ Wrote (now (buf .entry)) at (endBytes clocks held refills writebacks) (now (buf .exit)) r × (r ≤ at + 80) ⌝ }
+{
+    let a = put_text(buf, at, b"end ");
+    let b = numbers::put_decimal(buf, a, clocks);
+    let c = put_text(buf, b, b" held ");
+    let d = numbers::put_decimal(buf, c, held);
+    let e = put_text(buf, d, b" refills ");
+    let f = numbers::put_decimal(buf, e, refills);
+    let g = put_text(buf, f, b" writebacks ");
+    let h = numbers::put_decimal(buf, g, writebacks);
+    numbers::put_byte(buf, h, 10)
+}
+
+pub fn put_refused(buf: &mut [u8], at: usize, number: u64, offset: u64) -> usize
+    requires { ⌜ at + 32 ≤ length (now buf) ⌝ }
+    ensures { λ r. ⌜ Wrote (now (buf .entry)) at (refusedBytes number offset) (now (buf .exit)) r × (r ≤ at + 32) ⌝ }
+{
+    let a = put_text(buf, at, b"refused ");
+    let b = numbers::put_decimal(buf, a, number);
+    let c = numbers::put_byte(buf, b, 32);
+    let d = numbers::put_decimal(buf, c, offset);
+    numbers::put_byte(buf, d, 10)
+}

@@ -1,0 +1,93 @@
+// A byte, digits and numbers, put into a buffer.
+// Paper: "three and five capital hexadecimal digits .. in decimal".
+// The base is a constant at each call, so that the compiler has no division left.
+ghost use mathlib.Core.Path.{_≡_};
+ghost use mathlib.Core.List.{[], _∷_};
+ghost use Prim.Native.Nat.{_+_, _≤_, _<_};
+ghost use lib.ListN.{length};
+ghost use Rattle.trm_text.specs.Numbers.{digits, decimal, hex};
+ghost use Rattle.trm_text.specs.Numbers.{glyph as Numbers·glyph, places as Numbers·places};
+ghost use Rattle.trm_text.specs.Wrote.{Wrote};
+
+pub fn put_byte(buf: &mut [u8], at: usize, b: u8) -> usize
+    requires { ⌜ at < length (now buf) ⌝ }
+    ensures { λ r. ⌜ Wrote (now (buf .entry)) at (b ∷ []) (now (buf .exit)) r × (r ≡ at + 1) ⌝ }
+{
+    buf[at] = b;
+    at + 1
+}
+
+// A digit below 16, in capitals.
+fn glyph(d: u64) -> u8
+    requires { ⌜ d < 16 ⌝ }
+    ensures { λ r. ⌜ r ≡ Numbers·glyph d ⌝ }
+{
+    if d < 10 {
+        return 48 + d as u8;
+    }
+    55 + d as u8
+}
+
+// The last k digits of n, from the lowest on.
+fn spell(buf: &mut [u8], at: usize, k: usize, n: u64, base: u64) -> usize
+    requires { ⌜ (at + k ≤ length (now buf)) × (0 < base) × (base ≤ 16) ⌝ }
+    ensures { λ r. ⌜ Wrote (now (buf .entry)) at (digits base k n) (now (buf .exit)) r ⌝ }
+{
+    let mut i = k;
+    let mut rest = n;
+    while 0 < i {
+        i -= 1;
+        buf[at + i] = glyph(rest % base);
+        rest = rest / base;
+    }
+    at + k
+}
+
+// How many decimal digits a number has.
+fn places(n: u64) -> usize
+    ensures { λ r. ⌜ (r ≡ Numbers·places n) × (r ≤ 10) ⌝ }
+{
+    if n < 10 {
+        return 1;
+    }
+    if n < 100 {
+        return 2;
+    }
+    if n < 1000 {
+        return 3;
+    }
+    if n < 10000 {
+        return 4;
+    }
+    if n < 100000 {
+        return 5;
+    }
+    if n < 1000000 {
+        return 6;
+    }
+    if n < 10000000 {
+        return 7;
+    }
+    if n < 100000000 {
+        return 8;
+    }
+    if n < 1000000000 {
+        return 9;
+    }
+    10
+}
+
+pub fn put_decimal(buf: &mut [u8], at: usize, n: u64) -> usize
+    requires { ⌜ at + 10 ≤ length (now buf) ⌝ }
+    ensures { λ r. ⌜ Wrote (now (buf .entry)) at (decimal n) (now (buf .exit)) r × (r ≤ at + 10) ⌝ }
+{
+    let k = places(n);
+    spell(buf, at, k, n, 10)
+}
+
+pub fn put_hex(buf: &mut [u8], at: usize, k: usize, n: u64) -> usize
+    requires { ⌜ at + k ≤ length (now buf) ⌝ }
+    ensures { λ r. ⌜ Wrote (now (buf .entry)) at (hex k n) (now (buf .exit)) r × (r ≡ at + k) ⌝ }
+{
+    spell(buf, at, k, n, 16)
+}
