@@ -105,7 +105,7 @@ pub fn fill_ahead(
         (now (store .entry)))
         (point r (now (regs .entry)) (cache (now (full .entry)) (now (dirty .entry)) (now (block .entry)) (now (words .exit)))
         (now (store .entry)))
-        × (r .scalars .pc ≡ g .scalars .pc) × (r .scalars .running .phase ≡ 3) × (g .at ≤ r .at) ⌝ }
+        × (r .scalars .pc ≡ g .scalars .pc) × (r .scalars .running .phase ≡ 3) × (g .at ≤ r .at) × (r .finished ≡ g .finished) ⌝ }
 {
     let b = reading::target_of(g.scalars, regs, w, store.len() as u64) / 8;
     let l = (b % 16) as usize;
@@ -174,7 +174,7 @@ pub fn write_ahead(
         (now (store .entry)))
         (point r (now (regs .entry)) (cache (now (full .entry)) (now (dirty .entry)) (now (block .entry)) (now (words .entry)))
         (now (store .exit)))
-        × (r .scalars .pc ≡ g .scalars .pc) × (r .scalars .running .phase ≡ 2) × (g .at ≤ r .at) ⌝ }
+        × (r .scalars .pc ≡ g .scalars .pc) × (r .scalars .running .phase ≡ 2) × (g .at ≤ r .at) × (r .finished ≡ g .finished) ⌝ }
 {
     let mut c = g.scalars;
     let clears = reading::turns_cache_off(c, regs, w);
@@ -239,7 +239,7 @@ pub fn wait_ahead(
         (now (store .entry)))
         (point r (now (regs .entry)) (cache (now (full .entry)) (now (dirty .entry)) (now (block .entry)) (now (words .entry)))
         (now (store .entry)))
-        × (r .scalars .pc ≡ g .scalars .pc) × (r .scalars .running .phase ≡ 4) × (g .at ≤ r .at) ⌝ }
+        × (r .scalars .pc ≡ g .scalars .pc) × (r .scalars .running .phase ≡ 4) × (g .at ≤ r .at) × (r .finished ≡ g .finished) ⌝ }
 {
     let all = base[(w / 0x4000 % 16) as usize] + 4;
     let mut c = g.scalars;

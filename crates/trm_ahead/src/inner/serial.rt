@@ -92,7 +92,7 @@ pub fn steps_ahead(
         (now (store .entry)))
         (point r (now (regs .entry)) (cache (now (full .entry)) (now (dirty .entry)) (now (block .entry)) (now (words .entry)))
         (now (store .entry)))
-        × (r .scalars .pc ≡ g .scalars .pc) × (r .scalars .running .phase ≡ 1) × (g .at ≤ r .at) ⌝ }
+        × (r .scalars .pc ≡ g .scalars .pc) × (r .scalars .running .phase ≡ 1) × (g .at ≤ r .at) × (r .finished ≡ g .finished) ⌝ }
 {
     let a = reading::operand_a(g.scalars, regs, w);
     let b = reading::operand_b(g.scalars, regs, w);

@@ -61,7 +61,14 @@ pub fn put_header(buf: &mut [u8], at: usize) -> usize
     put_text(buf, at, b"clock at word took\n")
 }
 
-pub fn put_end(buf: &mut [u8], at: usize, clocks: u64, held: u64, refills: u64, writebacks: u64) -> usize
+pub fn put_end(
+    buf: &mut [u8],
+    at: usize,
+    clocks: u64,
+    held: u64,
+    refills: u64,
+    writebacks: u64,
+) -> usize
     requires { ⌜ at + 80 ≤ length (now buf) ⌝ }
     ensures { λ r. ⌜ Wrote (now (buf .entry)) at (endBytes clocks held refills writebacks) (now (buf .exit)) r × (r ≤ at + 80) ⌝ }
 {

@@ -3,7 +3,7 @@ use Rattle.trm_ahead.proofs.Laws.Ahead.{On, on-none, good-on, fill-bloc
 use native.Mathlib.Omega.{arith}
 use native.Mathlib.Nat.{mod-lt}
 use Prim.Native.Nat.{_-_}
-use mathlib.Core.Path.{ap}
+use mathlib.Core.Path.{refl, ap}
 use lib.ListN.{length}
 use Rattle.trm_cache.specs.Cache.{cache}
 use Rattle.trm_reference.specs.Visible.{Visible}
@@ -27,7 +27,7 @@ loop-holds : tie.Need-loop-holds Inv-loop μ-loop
 loop-holds c = on-none _ _ _ _ _ _ _ (c .before .before .before .before .pre .1)
 
 returns : tie.Need-returns Inv-loop μ-loop
-returns c = let n = c .before .before .before .loop .inv in (n .quietly, ap (λ (v : Visible). v .pc) (n .seen), n .phase, n .onto)
+returns c = let n = c .before .before .before .loop .inv in (n .quietly, ap (λ (v : Visible). v .pc) (n .seen), n .phase, n .onto, refl)
 
 shared-slice-read-fill-clock : tie.Need-shared-slice-read-fill-clock Inv-loop μ-loop
 shared-slice-read-fill-clock c = c .before .before .before .before .loop-test .taken
@@ -69,7 +69,7 @@ loop-again c =
     .ensures)) _ _ (c .fill-clock .ensures .0) (c .fill-clock .ensures .1)
 
 returns-2 : tie.Need-returns-2 Inv-loop μ-loop
-returns-2 c = let n = c .before .loop .inv in (n .quietly, ap (λ (v : Visible). v .pc) (n .seen), n .phase, n .onto)
+returns-2 c = let n = c .before .loop .inv in (n .quietly, ap (λ (v : Visible). v .pc) (n .seen), n .phase, n .onto, refl)
 
 pub fill-ahead-spec : {M : Type 1} → statement M
 fill-ahead-spec =

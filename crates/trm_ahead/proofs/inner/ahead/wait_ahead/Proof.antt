@@ -7,7 +7,7 @@ use Rattle.trm_word.specs.Fields.{operation}
 use Rattle.trm_reference.specs.Charge.{uncachedCharge}
 use native.Mathlib.Omega.{arith}
 use Prim.Native.Nat.{_+_, _-_}
-use mathlib.Core.Path.{sym, ap, _∙_}
+use mathlib.Core.Path.{refl, sym, ap, _∙_}
 use lib.ListN.{length, getD}
 use Rattle.trm_cache.specs.Cache.{cache}
 use Rattle.trm_reference.specs.Visible.{Visible}
@@ -56,7 +56,7 @@ add-if1 c =
 
 returns : tie.Need-returns Inv-loop μ-loop
 unfolding uncachedCharge
-returns c = let n = c .before .before .before .loop .inv in (n .quietly, ap (λ (v : Visible). v .pc) (n .seen), n .phase, n .onto)
+returns c = let n = c .before .before .before .loop .inv in (n .quietly, ap (λ (v : Visible). v .pc) (n .seen), n .phase, n .onto, refl)
 
 shared-slice-read-wait-clock : tie.Need-shared-slice-read-wait-clock Inv-loop μ-loop
 unfolding uncachedCharge
@@ -94,7 +94,7 @@ loop-again c =
 
 returns-2 : tie.Need-returns-2 Inv-loop μ-loop
 unfolding uncachedCharge
-returns-2 c = let n = c .before .loop .inv in (n .quietly, ap (λ (v : Visible). v .pc) (n .seen), n .phase, n .onto)
+returns-2 c = let n = c .before .loop .inv in (n .quietly, ap (λ (v : Visible). v .pc) (n .seen), n .phase, n .onto, refl)
 
 pub wait-ahead-spec : {M : Type 1} → statement M
 wait-ahead-spec =

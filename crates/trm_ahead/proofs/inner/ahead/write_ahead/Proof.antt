@@ -3,7 +3,7 @@ use Rattle.trm_ahead.proofs.Laws.Ahead.{long-on}
 use Rattle.trm_ahead.proofs.Laws.Ahead.{On, on-none, good-on, clears-on, line-on, writes, write-on}
 use native.Mathlib.Omega.{arith}
 use Prim.Native.Nat.{_-_}
-use mathlib.Core.Path.{ap}
+use mathlib.Core.Path.{refl, ap}
 use lib.ListN.{length}
 use Rattle.trm_cache.specs.Cache.{cache}
 use Rattle.trm_reference.specs.Visible.{Visible}
@@ -35,7 +35,7 @@ same-length c =
     .before .before .pre .0)
 
 returns : tie.Need-returns Inv-loop μ-loop
-returns c = let n = c .before .before .before .loop .inv in (n .quietly, ap (λ (v : Visible). v .pc) (n .seen), n .phase, n .onto)
+returns c = let n = c .before .before .before .loop .inv in (n .quietly, ap (λ (v : Visible). v .pc) (n .seen), n .phase, n .onto, refl)
 
 shared-slice-read-write-clock : tie.Need-shared-slice-read-write-clock Inv-loop μ-loop
 shared-slice-read-write-clock c = c .before .before .before .before .loop-test .taken
@@ -78,7 +78,7 @@ same-length-2 c =
     long-on _ _ _ _ _ _ _ _ _ _ (c .before .loop .inv) (c .before .before .before .before .before .before .before .pre .0)
 
 returns-2 : tie.Need-returns-2 Inv-loop μ-loop
-returns-2 c = let n = c .before .loop .inv in (n .quietly, ap (λ (v : Visible). v .pc) (n .seen), n .phase, n .onto)
+returns-2 c = let n = c .before .loop .inv in (n .quietly, ap (λ (v : Visible). v .pc) (n .seen), n .phase, n .onto, refl)
 
 pub write-ahead-spec : {M : Type 1} → statement M
 write-ahead-spec =

@@ -3,7 +3,7 @@ use Rattle.trm_ahead.proofs.Laws.Ahead.{serial-held}
 use Rattle.trm_ahead.proofs.Laws.Ahead.{On, served, serial-begins, serial-on, serves, serial-room}
 use native.Mathlib.Omega.{arith}
 use Prim.Native.Nat.{_+_, _-_, _≤_}
-use mathlib.Core.Path.{ap}
+use mathlib.Core.Path.{refl, ap}
 use lib.ListN.{length}
 use Rattle.trm_cache.specs.Cache.{cache}
 use Rattle.trm_reference.specs.Visible.{Visible}
@@ -48,7 +48,7 @@ after-serial-requires c κs =
 returns : tie.Need-returns Inv-loop μ-loop
 returns c =
     let n = c .before .before .before .before .before .loop .inv .0 in
-    rw (c .after-serial .ensures) (n .quietly, ap (λ (v : Visible). v .pc) (n .seen), n .phase, n .onto)
+    rw (c .after-serial .ensures) (n .quietly, ap (λ (v : Visible). v .pc) (n .seen), n .phase, n .onto, refl)
 
 add-serial-clock : tie.Need-add-serial-clock Inv-loop μ-loop
 add-serial-clock c =
@@ -112,7 +112,7 @@ after-serial-requires-2 c κs =
 returns-2 : tie.Need-returns-2 Inv-loop μ-loop
 returns-2 c =
     let n = c .before .before .before .loop .inv .0 in
-    rw (c .after-serial2 .ensures) (n .quietly, ap (λ (v : Visible). v .pc) (n .seen), n .phase, n .onto)
+    rw (c .after-serial2 .ensures) (n .quietly, ap (λ (v : Visible). v .pc) (n .seen), n .phase, n .onto, refl)
 
 pub steps-ahead-spec : {M : Type 1} → statement M
 steps-ahead-spec =

@@ -1,0 +1,115 @@
+// The first clock of a word of 8 to 15, in phase 0: a word of one clock is carried out, any other begins.
+// Paper: the clock table.
+// 0-7 are the listing's own loop's.
+ghost use mathlib.Core.Path.{_≡_};
+ghost use lib.ListN.{length};
+ghost use Prim.Native.Nat.{_≤_};
+ghost use Rattle.trm_word.specs.Fields.{operation};
+ghost use Rattle.trm_reference.specs.Geometry.{paperGeometry};
+ghost use Rattle.trm_cache.specs.Cache.{cache};
+ghost use Rattle.trm_core.specs.Record.{whole};
+ghost use Rattle.trm_core.specs.Clock.{worked};
+ghost use Rattle.trm_plan.specs.Plan.{Good};
+ghost use Rattle.trm_clock.specs.Made.{made};
+use trm_cache::inner::lines;
+use trm_clock::inner::motion;
+use trm_clock::inner::outcome;
+use trm_clock::inner::outcome::Clocked;
+use trm_clock::inner::ready;
+use trm_core::record::Scalars;
+use trm_execute::inner::words as carry;
+use trm_reading::inner::reading;
+use trm_word::inner::address::Place;
+
+// 12 LD: past the cache the first wait; a miss looks; a hit, like a device, is due.
+fn first_load(
+    c: Scalars,
+    regs: &mut [u32; 16],
+    full: &mut [u8; 16],
+    dirty: &mut [u8; 16],
+    block: &mut [u16; 16],
+    words: &mut [u32; 128],
+    store: &mut [u32],
+    w: u32,
+    input: u32,
+) -> Clocked
+    requires { ⌜ (Good w (length (now store)) c (now regs) (cache (now full) (now dirty) (now block) (now words)))
+        × (c .running .phase ≡ 0) × (operation w ≡ 12) ⌝ }
+    ensures { λ r. ⌜ made r (now (regs .exit)) (cache (now (full .exit)) (now (dirty .exit)) (now (block .exit)) (now (words .exit)))
+        (now (store .exit))
+        ≡ worked paperGeometry w (length (now (store .entry))) (whole c (now (regs .entry)) (cache (now (full .entry)) (now
+        (dirty .entry)) (now (block .entry)) (now (words .entry)))) (now (store .entry)) input ⌝ }
+{
+    let place = reading::place_of_word(c, regs, w, store.len() as u64);
+    match place {
+        Place::Device(_) => outcome::enters(c, 5, 0), // the device is read in the last clock
+        Place::Memory(a) => {
+            if !reading::cache_on(c, regs) {
+                return outcome::enters(c, 4, 1);
+            }
+            let b = a / 8;
+            let l = (b % 16) as usize;
+            if !lines::line_holds(full, dirty, block, words, l, b) {
+                let m = motion::miss(full, dirty, block, words, l);
+                let running = m.running;
+                return outcome::goes_on(c, running, m.refilled, m.written);
+            }
+            outcome::enters(c, 5, 0)
+        }
+    }
+}
+
+// 14: one clock, and one more if it is taken.
+fn first_branch(
+    c: Scalars,
+    regs: &mut [u32; 16],
+    full: &mut [u8; 16],
+    dirty: &mut [u8; 16],
+    block: &mut [u16; 16],
+    words: &mut [u32; 128],
+    store: &mut [u32],
+    w: u32,
+    input: u32,
+) -> Clocked
+    requires { ⌜ (Good w (length (now store)) c (now regs) (cache (now full) (now dirty) (now block) (now words)))
+        × (c .running .phase ≡ 0) × (operation w ≡ 14) ⌝ }
+    ensures { λ r. ⌜ made r (now (regs .exit)) (cache (now (full .exit)) (now (dirty .exit)) (now (block .exit)) (now (words .exit)))
+        (now (store .exit))
+        ≡ worked paperGeometry w (length (now (store .entry))) (whole c (now (regs .entry)) (cache (now (full .entry)) (now
+        (dirty .entry)) (now (block .entry)) (now (words .entry)))) (now (store .entry)) input ⌝ }
+{
+    if reading::branch_taken(c, regs, w) {
+        return outcome::enters(c, 5, 0);
+    }
+    outcome::carried(carry::pass(c, regs, w))
+}
+
+// The word w begins: one match on the operation, 0-10 its arithmetic arm.
+pub fn first_clock(
+    c: Scalars,
+    regs: &mut [u32; 16],
+    full: &mut [u8; 16],
+    dirty: &mut [u8; 16],
+    block: &mut [u16; 16],
+    words: &mut [u32; 128],
+    store: &mut [u32],
+    w: u32,
+    input: u32,
+) -> Clocked
+    requires { ⌜ (Good w (length (now store)) c (now regs) (cache (now full) (now dirty) (now block) (now words)))
+        × (c .running .phase ≡ 0) × (8 ≤ operation w) ⌝ }
+    ensures { λ r. ⌜ made r (now (regs .exit)) (cache (now (full .exit)) (now (dirty .exit)) (now (block .exit)) (now (words .exit)))
+        (now (store .exit))
+        ≡ worked paperGeometry w (length (now (store .entry))) (whole c (now (regs .entry)) (cache (now (full .entry)) (now
+        (dirty .entry)) (now (block .entry)) (now (words .entry)))) (now (store .entry)) input ⌝ }
+{
+    let op = w / 0x4000 % 16;
+    match op {
+        0..=10 => ready::first_arithmetic(c, regs, full, dirty, block, words, store, w, input),
+        11 => ready::first_control(c, regs, full, dirty, block, words, store, w, input),
+        12 => first_load(c, regs, full, dirty, block, words, store, w, input),
+        13 => ready::first_store(c, regs, full, dirty, block, words, store, w, input),
+        14 => first_branch(c, regs, full, dirty, block, words, store, w, input),
+        _ => outcome::enters(c, 5, 0),
+    }
+}
