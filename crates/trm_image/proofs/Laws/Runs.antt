@@ -3,8 +3,8 @@
 -- Assumes nothing.
 use Prim.Native.Nat.{ℕ, zero, suc, _+_, _≤_, _<_}
 use mathlib.Core.Path.{_≡_, refl, sym, ap, _∙_}
-use mathlib.Core.Bool.{Bool, true, false, cond}
-use mathlib.Core.List.{List, [], _∷_, _++_}
+use mathlib.Core.Bool.{Bool, true, false}
+use mathlib.Core.List.{List, [], _∷_}
 use native.Mathlib.Omega.{arith}
 use native.Mathlib.Decide.{decLt}
 use lib.ListN.{length, drop}
@@ -12,9 +12,9 @@ use lib.Dec.{eqb}
 use borrow.Author.Tests.{eqb-false}
 use Rattle.trm_image.specs.Records.{lengthAt, kindAt, begins}
 use Rattle.trm_image.specs.Refused.{countAt, lineAt, faultAt, firstFault}
-use Rattle.trm_image.specs.Meaning.{Run, runAt, wordsIn, runsIn}
+use Rattle.trm_image.specs.Meaning.{runAt, wordsIn, runsIn}
 use Rattle.trm_image.proofs.Laws.Walk.{next, ended, fault-here, fault-later, whole-record}
-use Rattle.trm_image.proofs.Laws.Clean.{Clean, clean, Order, is-first, is-second, is-run, ordered, RunPart, run-part}
+use Rattle.trm_image.proofs.Laws.Clean.{Clean, clean, Order, is-first, is-second, is-run, ordered, run-part}
 
 -- a record where no fault is found has none itself, and none is found later
 module _ (n : ℕ) (s : List ℕ) (before at : ℕ) (h : at < length s)
