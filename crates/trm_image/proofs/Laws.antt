@@ -1,6 +1,15 @@
 -- The laws, one theme to a file.
--- `Words`: words one after another; `Parts`: a payload as a part of the image; `Walk`: record after record.
--- Assumes nothing.
+-- `Words`: words one after another; `Parts`: a payload as a part of the image; `Walk`: record after record; `Clean`: a record without a
+-- fault; `Runs`: runs to the end; `Accepted`: an accepted image; `First`: the first fault; `Bytes`, `Written`, `Described`: an accepted
+-- image written out; `Cases`: the table of images. Assumes nothing.
 pub mod Words
 pub mod Parts
 pub mod Walk
+pub mod Clean
+pub mod Runs
+pub mod Accepted
+pub mod First
+pub mod Bytes
+pub mod Written
+pub mod Described
+pub mod Cases

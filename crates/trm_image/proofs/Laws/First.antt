@@ -1,0 +1,112 @@
+-- What is refused: too long, empty, a first fault, or no such store.
+-- Idea: by the tests of the whole image; a first fault by induction on the records.
+-- Assumes nothing.
+use Prim.Native.Nat.{ℕ}
+use mathlib.Core.Path.{_≡_, refl, sym, ap}
+use mathlib.Core.Logic.{_≢_}
+use mathlib.Core.Bool.{Bool, true, false, cond}
+use mathlib.Core.List.{List, [], _∷_, _++_}
+use lib.ListN.{length}
+use lib.Dec.{eqb, ltb}
+use borrow.Author.Tests.{ltb-true, eqb-true, eqb-false}
+use native.Mathlib.Omega.{arith}
+use Rattle.trm_word.specs.Address.{storeLengthOk}
+use Rattle.trm_image.specs.Records.{kindAt, recordsOf}
+use Rattle.trm_image.specs.Refused.{Refused, faultAt, firstFault, storeFault, imageFault}
+use Rattle.trm_image.specs.Claims.{lastKind, Faultless, Why, too-long, empty, faulty, no-store, RefusedFirst}
+
+-- the first fault of some records, the kind before them being `last`
+record FirstIn (n : ℕ) (s : List ℕ) (last : ℕ) (ats : List ℕ) (f : Refused) : Type 0 where
+  before : List ℕ
+  after : List ℕ
+  records : ats ≡ before ++ f .at ∷ after
+  faultless : Faultless n s last before
+  fault : faultAt n s (lastKind s last before) (f .at) ≡ f .number
+
+module _ (n : ℕ) (s : List ℕ) where
+  first-later : (last at : ℕ) (more : List ℕ) (f : Refused) → faultAt n s last at ≡ 0 → FirstIn n s (kindAt s at) more f
+      → FirstIn n s last (at ∷ more) f
+  unfolding Faultless lastKind
+  first-later last at more f z x =
+      record {
+        before = at ∷ x .before;
+        after = x .after;
+        records = ap (λ t. at ∷ t) (x .records);
+        faultless = (z, x .faultless);
+        fault = x .fault;
+      }
+
+  first-here : (last at : ℕ) (more : List ℕ) → FirstIn n s last (at ∷ more) (record { number = faultAt n s last at; at = at })
+  unfolding Faultless lastKind
+  first-here last at more = record { before = []; after = more; records = refl; faultless = tt; fault = refl }
+
+  first-in : (last : ℕ) (ats : List ℕ) → firstFault n s last ats .number ≢ 0 → FirstIn n s last ats (firstFault n s last ats)
+  unfolding firstFault
+  first-in last [] h = absurd (h refl)
+  first-in last (at ∷ more) h = go (eqb (faultAt n s last at) 0) refl (first-in (kindAt s at) more) h
+    where
+      here : Refused
+      here = record { number = faultAt n s last at; at = at }
+
+      go : (t : Bool) → eqb (faultAt n s last at) 0 ≡ t
+          → (firstFault n s (kindAt s at) more .number ≢ 0 → FirstIn n s (kindAt s at) more (firstFault n s (kindAt s at) more))
+          → cond t (firstFault n s (kindAt s at) more) here .number ≢ 0
+          → FirstIn n s last (at ∷ more) (cond t (firstFault n s (kindAt s at) more) here)
+      go true e later z =
+          first-later last at more (firstFault n s (kindAt s at) more) (eqb-true (faultAt n s last at) 0 e) (later z)
+      go false e later z = first-here last at more
+
+  none-in : (last : ℕ) (ats : List ℕ) → firstFault n s last ats .number ≡ 0 → Faultless n s last ats
+  unfolding firstFault Faultless
+  none-in last [] h = tt
+  none-in last (at ∷ more) h = go (eqb (faultAt n s last at) 0) refl (none-in (kindAt s at) more) h
+    where
+      here : Refused
+      here = record { number = faultAt n s last at; at = at }
+
+      go : (t : Bool) → eqb (faultAt n s last at) 0 ≡ t
+          → (firstFault n s (kindAt s at) more .number ≡ 0 → Faultless n s (kindAt s at) more)
+          → cond t (firstFault n s (kindAt s at) more) here .number ≡ 0
+          → (faultAt n s last at ≡ 0) × Faultless n s (kindAt s at) more
+      go true e later z = (eqb-true (faultAt n s last at) 0 e, later z)
+      go false e later z = absurd (eqb-false (faultAt n s last at) 0 e z)
+
+  no-bytes : (t : List ℕ) → length t ≡ 0 → t ≡ []
+  no-bytes [] e = refl
+  no-bytes (b ∷ bs) e = absurd (omega (arith, e))
+
+  why-store : (t : Bool) → storeLengthOk n ≡ t → Faultless n s 0 (recordsOf s) → (f : Refused)
+      → cond {A = Refused} t (record { number = 0; at = 0 }) (record { number = 4; at = 0 }) ≡ f → f .number ≢ 0
+      → Why n s (f .number) (f .at)
+  why-store true e clean f q z = absurd (z (sym (ap (λ r. r .number) q)))
+  why-store false e clean f q z = no-store clean e (sym (ap (λ r. r .number) q)) (sym (ap (λ r. r .at) q))
+
+  why-record : (t : Bool) → eqb (firstFault n s 0 (recordsOf s) .number) 0 ≡ t → (f : Refused)
+      → cond t (storeFault n) (firstFault n s 0 (recordsOf s)) ≡ f → f .number ≢ 0 → Why n s (f .number) (f .at)
+  unfolding storeFault
+  why-record true e f q z =
+      why-store (storeLengthOk n) refl (none-in 0 (recordsOf s) (eqb-true (firstFault n s 0 (recordsOf s) .number) 0 e)) f q z
+  why-record false e f q z =
+      let x = rw q at (first-in 0 (recordsOf s) (eqb-false (firstFault n s 0 (recordsOf s) .number) 0 e)) in
+      faulty
+      (record { before = x .before; after = x .after; records = x .records; faultless = x .faultless; fault = x .fault })
+
+  why-some : (t : Bool) → eqb (length s) 0 ≡ t → (f : Refused)
+      → cond t (record { number = 2; at = 0 })
+      (cond (eqb (firstFault n s 0 (recordsOf s) .number) 0) (storeFault n) (firstFault n s 0 (recordsOf s)))
+      ≡ f → f .number ≢ 0 → Why n s (f .number) (f .at)
+  why-some true e f q z =
+      empty (no-bytes s (eqb-true (length s) 0 e)) (sym (ap (λ r. r .number) q)) (sym (ap (λ r. r .at) q))
+  why-some false e f q z = why-record (eqb (firstFault n s 0 (recordsOf s) .number) 0) refl f q z
+
+  why-small : (t : Bool) → ltb 65536 (length s) ≡ t → (f : Refused)
+      → cond t (record { number = 1; at = 0 })
+      (cond (eqb (length s) 0) (record { number = 2; at = 0 })
+      (cond (eqb (firstFault n s 0 (recordsOf s) .number) 0) (storeFault n) (firstFault n s 0 (recordsOf s))))
+      ≡ f → f .number ≢ 0 → Why n s (f .number) (f .at)
+  why-small true e f q z = too-long (ltb-true 65536 (length s) e) (sym (ap (λ r. r .number) q)) (sym (ap (λ r. r .at) q))
+  why-small false e f q z = why-some (eqb (length s) 0) refl f q z
+
+pub refused-first : RefusedFirst
+unfolding imageFault
+refused-first n s z = why-small n s (ltb 65536 (length s)) refl (imageFault n s) refl z
