@@ -14,7 +14,8 @@ use Rattle.trm_image.specs.declared.fault.Checked.{Checked}
 use Rattle.trm_image.specs.Numbers.{numberOf}
 use Rattle.trm_image.specs.Records.{kindAt, recordsOf}
 use Rattle.trm_image.specs.Refused.{faultAt, imageFault}
-use Rattle.trm_image.specs.Meaning.{imageOf}
+use Rattle.trm_image.specs.Meaning.{Image, imageOf}
+use Rattle.trm_image.specs.Cases.{CasesHold}
 use Rattle.trm_image.specs.Written.{imageBytes, Meant}
 
 -- the contract of `check`, n being the store's length in words and s the image
@@ -44,8 +45,9 @@ pub record FirstFault (n : ℕ) (s : List ℕ) (number at : ℕ) : Type 0 where
 pub data Why (n : ℕ) (s : List ℕ) (number at : ℕ) : Type 0 where
   too-long : 65536 < length s → number ≡ 1 → at ≡ 0 → Why n s number at
   empty : s ≡ [] → number ≡ 2 → at ≡ 0 → Why n s number at
-  faulty : FirstFault n s number at → Why n s number at
-  no-store : Faultless n s 0 (recordsOf s) → storeLengthOk n ≡ false → number ≡ 4 → at ≡ 0 → Why n s number at
+  faulty : length s ≤ 65536 → FirstFault n s number at → Why n s number at
+  no-store : length s ≤ 65536 → 0 < length s → Faultless n s 0 (recordsOf s) → storeLengthOk n ≡ false → number ≡ 4 → at ≡ 0
+      → Why n s number at
 
 abbrev pub RefusedFirst : Type 0
 RefusedFirst = (n : ℕ) (s : List ℕ) → imageFault n s .number ≢ 0 → Why n s (imageFault n s .number) (imageFault n s .at)
@@ -63,6 +65,15 @@ abbrev pub AcceptedDescribed : Type 0
 AcceptedDescribed =
     (n : ℕ) (s : List ℕ) → allAtMost 255 s ≡ true → imageFault n s .number ≡ 0 → Described n s
 
+-- And all of these are accepted, and read as what they were written from.
+abbrev pub WrittenAccepted : Type 0
+WrittenAccepted =
+    (n : ℕ) (second : Bool) (I : Image) → storeLengthOk n ≡ true → Meant n I → (second ≡ false → I .first ≡ [])
+    → length (imageBytes second I) ≤ 65536
+    → (imageFault n (imageBytes second I) ≡ record { number = 0; at = 0 }) × (imageOf (imageBytes second I) ≡ I)
+
 pub record Claims : Type 0 where
   pub refused-first : RefusedFirst
   pub accepted-described : AcceptedDescribed
+  pub written-accepted : WrittenAccepted
+  pub cases-hold : CasesHold

@@ -9,7 +9,7 @@ use mathlib.Core.Bool.{Bool, true, false, cond, _&&_}
 use mathlib.Core.List.{List, [], _∷_, _++_}
 use lib.ListN.{length}
 use lib.Dec.{leb}
-use Rattle.trm_core.specs.Refusals.{programOk}
+use Rattle.trm_core.specs.Refusals.{programOk, allAtMost}
 use Rattle.trm_image.specs.Meaning.{Run, Image}
 
 -- little-endian
@@ -36,13 +36,14 @@ imageBytes second I =
     ++ cond second (recordBytes 2 (wordBytes (I .first))) []
     ++ runBytes (I .runs)
 
--- "count 1–65,536"; no line byte above 7
+-- "count 1–65,536"; no line byte above 7; an input word has 32 bits
 unfoldable pub runsOk : List Run → Bool
 runsOk [] = true
-runsOk (r ∷ rs) = leb 1 (r .count) && leb (r .count) 65536 && leb (r .line) 7 && runsOk rs
+runsOk (r ∷ rs) = leb 1 (r .count) && leb (r .count) 65536 && leb (r .line) 7 && leb (r .input) 4294967295 && runsOk rs
 
--- a program that row 3 lets through, first data words "none up to the store", runs as above
+-- a program that row 3 lets through, first data words of 32 bits, "none up to the store", runs as above
 pub record Meant (n : ℕ) (I : Image) : Type 0 where
   pub program : programOk (I .program) ≡ true
   pub first : length (I .first) ≤ n
+  pub words : allAtMost 4294967295 (I .first) ≡ true
   pub runs : runsOk (I .runs) ≡ true
