@@ -1,0 +1,99 @@
+-- Which lines a listing has, from the clock history, and the bytes that the listing program writes.
+-- Paper: "`trmlist` reads an image .. with a store of 2,048 words, checks it whole, and runs it"; "Fields: clock count at the end, address
+-- and word .., unheld clocks, ..; an unfinished instruction has no line; an interrupt has the saved PC and `irq0` or `irq1` as its word".
+-- Assumes nothing.
+--   lineOf p x i took   the line of one clock, if it has one        linesFrom   those of all clocks from x on
+--   linesOf I           the lines of an image                       outputOf s  what is written for the bytes s
+use Prim.Native.Nat.{ℕ, _+_, _-_}
+use mathlib.Core.Bool.{Bool, cond, not, _&&_, _||_}
+use mathlib.Core.List.{List, [], _∷_, _++_}
+use lib.ListN.{length, replicate}
+use lib.Dec.{eqb}
+use Rattle.trm_reference.specs.Geometry.{paperGeometry}
+use Rattle.trm_reference.specs.Visible.{wordAt}
+use Rattle.trm_reference.specs.Interrupt.{stalled, interruptChosen}
+use Rattle.trm_reference.specs.Trace.{Pins, clocks, endOf}
+use Rattle.trm_core.specs.Record.{Lent, resetOf}
+use Rattle.trm_core.specs.Clock.{clockOf}
+use Rattle.trm_image.specs.Meaning.{Run, Image, imageOf}
+use Rattle.trm_image.specs.Refused.{imageFault}
+use Rattle.trm_text.specs.Lines.{Line, word, irq, linesBytes, header, endBytes, refusedBytes}
+
+-- the PC that an interrupt of this clock goes to, 2 or 3, and 0 if it takes none: nothing is in flight
+unfoldable pub interruptAt : Lent → Pins → ℕ
+interruptAt x i = cond (eqb (x .machine .scalars .running .phase) 0) (interruptChosen (x .machine .scalars .status) (i .line)) 0
+
+-- whether this clock carries a word out
+unfoldable pub carriesOut : List ℕ → Lent → Pins → Bool
+carriesOut p x i = eqb (clockOf paperGeometry p x i .out .done) 1
+
+-- a held clock has no line; an interrupt has one, of one unheld clock; a word carried out has one; `took` is how many unheld clocks
+-- the word in flight had before
+unfoldable pub lineOf : List ℕ → Lent → Pins → ℕ → List Line
+lineOf p x i took =
+    cond (stalled (i .line)) []
+    (cond (not (eqb (interruptAt x i) 0))
+    (record {
+      clock = x .machine .scalars .counts .clocks + 1;
+      at = x .machine .scalars .pc;
+      shown = irq (interruptAt x i - 2);
+      took = 1;
+    } ∷ [])
+    (cond (carriesOut p x i)
+    (record {
+      clock = x .machine .scalars .counts .clocks + 1;
+      at = x .machine .scalars .pc;
+      shown = word (wordAt p (x .machine .scalars .pc));
+      took = took + 1;
+    } ∷ [])
+    []))
+
+-- how many unheld clocks the word in flight had after this clock
+unfoldable pub tookAfter : List ℕ → Lent → Pins → ℕ → ℕ
+tookAfter p x i took =
+    cond (stalled (i .line)) took (cond (not (eqb (interruptAt x i) 0) || carriesOut p x i) 0 (took + 1))
+
+-- the lines of the clocks with these pins, from x on
+unfoldable pub linesFrom : List ℕ → Lent → ℕ → List Pins → List Line
+linesFrom p x took [] = []
+linesFrom p x took (i ∷ is) =
+    lineOf p x i took ++ linesFrom p (clockOf paperGeometry p x i .state) (tookAfter p x i took) is
+
+-- "count .., line byte, input word": so many clocks with the same pins
+abbrev pub pinsOfRun : Run → Pins
+pinsOfRun r = record { line = r .line; input = r .input }
+
+unfoldable pub pinsOfRuns : List Run → List Pins
+pinsOfRuns [] = []
+pinsOfRuns (r ∷ rs) = replicate (r .count) (pinsOfRun r) ++ pinsOfRuns rs
+
+-- "first data words, .. the rest being zero", in a store of 2,048 words
+unfoldable pub firstStore : List ℕ → List ℕ
+firstStore first = first ++ replicate (2048 - length first) 0
+
+-- after the reset
+unfoldable pub startOf : List ℕ → Lent
+startOf first = record { machine = resetOf paperGeometry (firstStore first); store = firstStore first }
+
+unfoldable pub linesOf : Image → List Line
+linesOf I = linesFrom (I .program) (startOf (I .first)) 0 (pinsOfRuns (I .runs))
+
+-- where the image's clocks end
+unfoldable pub finalOf : Image → Lent
+finalOf I =
+    endOf (startOf (I .first)) (clocks (clockOf paperGeometry (I .program)) (startOf (I .first)) (pinsOfRuns (I .runs)))
+
+-- the last line, by the counts of the record
+unfoldable pub endLine : Lent → List ℕ
+endLine x =
+    endBytes (x .machine .scalars .counts .clocks) (x .machine .scalars .counts .held) (x .machine .scalars .counts .refills)
+    (x .machine .scalars .counts .writebacks)
+
+unfoldable pub listingOf : Image → List ℕ
+listingOf I = header ++ linesBytes (linesOf I) ++ endLine (finalOf I)
+
+unfoldable pub outputOf : List ℕ → List ℕ
+outputOf s =
+    cond (eqb (imageFault 2048 s .number) 0)
+    (listingOf (imageOf s))
+    (refusedBytes (imageFault 2048 s .number) (imageFault 2048 s .at))
