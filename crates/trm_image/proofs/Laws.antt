@@ -1,7 +1,8 @@
 -- The laws, one theme to a file.
 -- `Words`: words one after another; `Parts`: a payload as a part of the image; `Walk`: record after record; `Clean`: a record without a
 -- fault; `Runs`: runs to the end; `Accepted`: an accepted image; `First`: the first fault; `Bytes`, `Written`, `Described`: an accepted
--- image written out; `Cases`: the table of images. Assumes nothing.
+-- image written out; `Readback`, `Unfaulted`, `Complete`: what is written out is accepted and read; `Cases`: the table of images.
+-- Assumes nothing.
 pub mod Words
 pub mod Parts
 pub mod Walk
@@ -12,4 +13,7 @@ pub mod First
 pub mod Bytes
 pub mod Written
 pub mod Described
+pub mod Readback
+pub mod Unfaulted
+pub mod Complete
 pub mod Cases

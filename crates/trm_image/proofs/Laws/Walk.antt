@@ -21,7 +21,7 @@ skips zero at s = ap (λ a. begins 0 a s) (omega arith)
 skips (suc k) at [] = refl
 skips (suc k) at (b ∷ bs) = skips k (suc at) bs ∙ ap (λ a. begins 0 a (drop k bs)) (omega arith)
 
-le4-drop : (s : List ℕ) (at : ℕ) → le4 (drop at s) 0 ≡ le4 s at
+pub le4-drop : (s : List ℕ) (at : ℕ) → le4 (drop at s) 0 ≡ le4 s at
 le4-drop s at =
     let z : at + 0 ≡ at = omega arith in
     rw (getD-drop at s 0 0, getD-drop at s 1 0, getD-drop at s 2 0, getD-drop at s 3 0, z)
