@@ -1,15 +1,19 @@
 -- The laws, one theme to a file.
--- `Words`: words one after another; `Parts`: a payload as a part of the image; `Walk`: record after record; `Clean`: a record without a
--- fault; `Runs`: runs to the end; `Accepted`: an accepted image; `First`: the first fault; `Bytes`, `Written`, `Described`: an accepted
--- image written out; `Cases`: the table of images. Assumes nothing.
+-- `Words`: words one after another; `Parts`: a payload as a part of the image; `Clean`: a record without a fault; `Walk`: record after
+-- record; `Runs`: runs to the end; `Accepted`: an accepted image; `First`: the first fault; `Bytes`, `Written`, `Described`: an accepted
+-- image written out; `Readback`, `Unfaulted`, `Complete`: what is written out is accepted and read; `Cases`: the table of images.
+-- Assumes nothing.
 pub mod Words
 pub mod Parts
-pub mod Walk
 pub mod Clean
+pub mod Walk
 pub mod Runs
 pub mod Accepted
 pub mod First
 pub mod Bytes
 pub mod Written
 pub mod Described
+pub mod Readback
+pub mod Unfaulted
+pub mod Complete
 pub mod Cases

@@ -4,6 +4,14 @@
 use Rattle.trm_image.specs.Claims.{Claims}
 use Rattle.trm_image.proofs.Laws.First.{refused-first}
 use Rattle.trm_image.proofs.Laws.Described.{accepted-described}
+use Rattle.trm_image.proofs.Laws.Complete.{written-accepted}
+use Rattle.trm_image.proofs.Laws.Cases.{cases-hold}
 
 pub theorems : Claims
-theorems = record { refused-first = refused-first; accepted-described = accepted-described }
+theorems =
+    record {
+      refused-first = refused-first;
+      accepted-described = accepted-described;
+      written-accepted = written-accepted;
+      cases-hold = cases-hold;
+    }

@@ -9,9 +9,9 @@ use native.Mathlib.Omega.{arith}
 use lib.ListN.{length, getD, drop}
 use lib.Seq.{drop-cons}
 use lib.Dec.{leb}
-use borrow.Author.Tests.{leb-true}
+use borrow.Author.Tests.{leb-true, le-leb}
 use Rattle.trm_core.specs.Refusals.{allAtMost}
-use Rattle.trm_laws.proofs.Tests.{both}
+use Rattle.trm_laws.proofs.Tests.{both, _&t_}
 use Rattle.trm_image.specs.Records.{le2, le4, wordsAt}
 use Rattle.trm_image.specs.Written.{bytes2, bytes4, wordBytes}
 
@@ -92,6 +92,20 @@ module _ (s : List ℕ) (small : allAtMost 255 s ≡ true) where
       four-bytes at (omega arith)
       ∙ ap (λ t. bytes4 (le4 s at) ++ t)
       (word-bytes k (at + 4) (omega arith) ∙ ap (λ j. wordBytes (wordsAt s (at + 4) k) ++ drop j s) e)
+
+  -- four bytes are a number of 32 bits
+  pub le4-small : (at : ℕ) → le4 s at ≤ 4294967295
+  le4-small at =
+      let a = byte at in
+      let b = byte (at + 1) in
+      let c = byte (at + 2) in
+      let d = byte (at + 3) in
+      omega (arith, a, b, c, d)
+
+  pub words-small : (at k : ℕ) → allAtMost 4294967295 (wordsAt s at k) ≡ true
+  unfolding allAtMost wordsAt
+  words-small at zero = refl
+  words-small at (suc k) = le-leb (le4 s at) 4294967295 (le4-small at) &t words-small (at + 4) k
 
 pub length-wordBytes : (ws : List ℕ) → length (wordBytes ws) ≡ 4 * length ws
 unfolding wordBytes

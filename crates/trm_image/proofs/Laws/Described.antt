@@ -14,6 +14,7 @@ use Rattle.trm_image.specs.Records.{lengthAt, kindAt}
 use Rattle.trm_image.specs.Meaning.{payloadWords, imageOf}
 use Rattle.trm_image.specs.Written.{wordBytes, recordBytes, runBytes, imageBytes, runsOk, Meant}
 use Rattle.trm_image.specs.Claims.{Described, AcceptedDescribed}
+use Rattle.trm_image.proofs.Laws.Bytes.{words-small}
 use Rattle.trm_image.proofs.Laws.Accepted.{Head, Second, Third, accepted-head, accepted-second, accepted-third, kind-inside}
 use Rattle.trm_image.proofs.Laws.Written.{length-payload, words-record, Left, left}
 
@@ -37,11 +38,13 @@ module _ (n : ℕ) (s : List ℕ) (small : allAtMost 255 s ≡ true) (h : Head n
       ∙ ap (λ t. t ++ runBytes (imageOf s .runs)) (sym (append-nil A))
 
   third-meant : Third n s → Meant n (imageOf s)
+  unfolding allAtMost
   third-meant x =
       let l = left n s small (length s) (6 + lengthAt s 0) (omega arith) (x .runs) in
       record {
         program = program-ok;
         first = rw (x .first) (omega arith);
+        words = ap (allAtMost 4294967295) (x .first);
         runs = ap runsOk (x .list) ∙ l .ok;
       }
 
@@ -72,6 +75,8 @@ module _ (n : ℕ) (s : List ℕ) (small : allAtMost 255 s ≡ true) (h : Head n
       record {
         program = program-ok;
         first = omega (arith, l, x .fits);
+        words = ap (allAtMost 4294967295) (x .first)
+            ∙ words-small s small (6 + lengthAt s 0 + 6) (lengthAt s (6 + lengthAt s 0) / 4);
         runs = ap runsOk (x .list) ∙ second-left x .ok;
       }
 

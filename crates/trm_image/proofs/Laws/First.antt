@@ -1,14 +1,14 @@
 -- What is refused: too long, empty, a first fault, or no such store.
 -- Idea: by the tests of the whole image; a first fault by induction on the records.
 -- Assumes nothing.
-use Prim.Native.Nat.{ℕ}
+use Prim.Native.Nat.{ℕ, _≤_, _<_}
 use mathlib.Core.Path.{_≡_, refl, sym, ap}
 use mathlib.Core.Logic.{_≢_}
 use mathlib.Core.Bool.{Bool, true, false, cond}
 use mathlib.Core.List.{List, [], _∷_, _++_}
 use lib.ListN.{length}
 use lib.Dec.{eqb, ltb}
-use borrow.Author.Tests.{ltb-true, eqb-true, eqb-false}
+use borrow.Author.Tests.{ltb-true, ltb-false, eqb-true, eqb-false}
 use native.Mathlib.Omega.{arith}
 use Rattle.trm_word.specs.Address.{storeLengthOk}
 use Rattle.trm_image.specs.Records.{kindAt, recordsOf}
@@ -75,29 +75,31 @@ module _ (n : ℕ) (s : List ℕ) where
   no-bytes [] e = refl
   no-bytes (b ∷ bs) e = absurd (omega (arith, e))
 
-  why-store : (t : Bool) → storeLengthOk n ≡ t → Faultless n s 0 (recordsOf s) → (f : Refused)
+  why-store : length s ≤ 65536 → 0 < length s → (t : Bool) → storeLengthOk n ≡ t → Faultless n s 0 (recordsOf s) → (f : Refused)
       → cond {A = Refused} t (record { number = 0; at = 0 }) (record { number = 4; at = 0 }) ≡ f → f .number ≢ 0
       → Why n s (f .number) (f .at)
-  why-store true e clean f q z = absurd (z (sym (ap (λ r. r .number) q)))
-  why-store false e clean f q z = no-store clean e (sym (ap (λ r. r .number) q)) (sym (ap (λ r. r .at) q))
+  why-store small some true e clean f q z = absurd (z (sym (ap (λ r. r .number) q)))
+  why-store small some false e clean f q z = no-store small some clean e (sym (ap (λ r. r .number) q)) (sym (ap (λ r. r .at) q))
 
-  why-record : (t : Bool) → eqb (firstFault n s 0 (recordsOf s) .number) 0 ≡ t → (f : Refused)
+  why-record : length s ≤ 65536 → 0 < length s → (t : Bool) → eqb (firstFault n s 0 (recordsOf s) .number) 0 ≡ t → (f : Refused)
       → cond t (storeFault n) (firstFault n s 0 (recordsOf s)) ≡ f → f .number ≢ 0 → Why n s (f .number) (f .at)
   unfolding storeFault
-  why-record true e f q z =
-      why-store (storeLengthOk n) refl (none-in 0 (recordsOf s) (eqb-true (firstFault n s 0 (recordsOf s) .number) 0 e)) f q z
-  why-record false e f q z =
+  why-record small some true e f q z =
+      why-store small some (storeLengthOk n) refl (none-in 0 (recordsOf s) (eqb-true (firstFault n s 0 (recordsOf s) .number) 0 e)) f q z
+  why-record small some false e f q z =
       let x = rw q at (first-in 0 (recordsOf s) (eqb-false (firstFault n s 0 (recordsOf s) .number) 0 e)) in
-      faulty
+      faulty small
       (record { before = x .before; after = x .after; records = x .records; faultless = x .faultless; fault = x .fault })
 
-  why-some : (t : Bool) → eqb (length s) 0 ≡ t → (f : Refused)
+  why-some : length s ≤ 65536 → (t : Bool) → eqb (length s) 0 ≡ t → (f : Refused)
       → cond t (record { number = 2; at = 0 })
       (cond (eqb (firstFault n s 0 (recordsOf s) .number) 0) (storeFault n) (firstFault n s 0 (recordsOf s)))
       ≡ f → f .number ≢ 0 → Why n s (f .number) (f .at)
-  why-some true e f q z =
+  why-some small true e f q z =
       empty (no-bytes s (eqb-true (length s) 0 e)) (sym (ap (λ r. r .number) q)) (sym (ap (λ r. r .at) q))
-  why-some false e f q z = why-record (eqb (firstFault n s 0 (recordsOf s) .number) 0) refl f q z
+  why-some small false e f q z =
+      let z0 : length s ≡ 0 → ⊥ = eqb-false (length s) 0 e in
+      why-record small (omega arith) (eqb (firstFault n s 0 (recordsOf s) .number) 0) refl f q z
 
   why-small : (t : Bool) → ltb 65536 (length s) ≡ t → (f : Refused)
       → cond t (record { number = 1; at = 0 })
@@ -105,7 +107,7 @@ module _ (n : ℕ) (s : List ℕ) where
       (cond (eqb (firstFault n s 0 (recordsOf s) .number) 0) (storeFault n) (firstFault n s 0 (recordsOf s))))
       ≡ f → f .number ≢ 0 → Why n s (f .number) (f .at)
   why-small true e f q z = too-long (ltb-true 65536 (length s) e) (sym (ap (λ r. r .number) q)) (sym (ap (λ r. r .at) q))
-  why-small false e f q z = why-some (eqb (length s) 0) refl f q z
+  why-small false e f q z = why-some (ltb-false 65536 (length s) e) (eqb (length s) 0) refl f q z
 
 pub refused-first : RefusedFirst
 unfolding imageFault

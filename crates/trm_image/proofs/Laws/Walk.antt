@@ -3,17 +3,16 @@
 -- Assumes nothing.
 use Prim.Native.Nat.{ℕ, zero, suc, _+_, _-_, _≤_, _<_}
 use mathlib.Core.Path.{_≡_, refl, sym, ap, _∙_}
-use mathlib.Core.Bool.{Bool, true, false, cond, _||_}
+use mathlib.Core.Bool.{true, false}
 use mathlib.Core.List.{List, [], _∷_}
 use native.Mathlib.Omega.{arith}
-use native.Mathlib.Numerals.{add-one}
-use lib.ListN.{length, getD, drop, length-drop, drop-of-length-le}
-use lib.Seq.{drop-cons, drop-drop, drop-nil, getD-drop}
+use lib.ListN.{length, drop, drop-of-length-le}
+use lib.Seq.{drop-cons, drop-drop, getD-drop}
 use lib.Dec.{eqb, ltb}
-use borrow.Author.Tests.{ltb-false, eqb-true}
+use borrow.Author.Tests.{ltb-false}
 use Rattle.trm_image.specs.Records.{le4, lengthAt, kindAt, begins, recordsOf}
-use Rattle.trm_image.specs.Refused.{Refused, cutShort, lengthWrong, countWrong, inOrder, wordWrong, lineWrong, faultAt}
-use Rattle.trm_image.specs.Refused.{firstFault, storeFault, imageFault}
+use Rattle.trm_image.specs.Refused.{Refused, cutShort, faultAt, firstFault, storeFault, imageFault}
+use Rattle.trm_image.proofs.Laws.Clean.{clean, neither}
 
 skips : (k at : ℕ) (s : List ℕ) → begins k at s ≡ begins 0 (at + k) (drop k s)
 unfolding begins
@@ -21,7 +20,7 @@ skips zero at s = ap (λ a. begins 0 a s) (omega arith)
 skips (suc k) at [] = refl
 skips (suc k) at (b ∷ bs) = skips k (suc at) bs ∙ ap (λ a. begins 0 a (drop k bs)) (omega arith)
 
-le4-drop : (s : List ℕ) (at : ℕ) → le4 (drop at s) 0 ≡ le4 s at
+pub le4-drop : (s : List ℕ) (at : ℕ) → le4 (drop at s) 0 ≡ le4 s at
 le4-drop s at =
     let z : at + 0 ≡ at = omega arith in
     rw (getD-drop at s 0 0, getD-drop at s 1 0, getD-drop at s 2 0, getD-drop at s 3 0, z)
@@ -59,24 +58,12 @@ module _ (n : ℕ) (s : List ℕ) (before at : ℕ) where
   unfolding firstFault
   fault-none h = rw (ended s at h)
 
--- of a table the first row is not met
-first-row : (t : Bool) (x : ℕ) → eqb (cond t 1 x) 0 ≡ true → t ≡ false
-first-row true x e = sym e
-first-row false x e = refl
-
-not-or : (a b : Bool) → a || b ≡ false → (a ≡ false) × (b ≡ false)
-not-or true b e = absurd-true e
-  where
-    absurd-true : true ≡ false → (true ≡ false) × (b ≡ false)
-    absurd-true x = (x, ap (λ t. cond t b false) x)
-not-or false b e = (refl, e)
-
 -- a record without a fault lies inside the image
 pub whole-record : (n : ℕ) (s : List ℕ) (before at : ℕ) → at ≤ length s → eqb (faultAt n s before at) 0 ≡ true
     → at + 6 + lengthAt s at ≤ length s
-unfolding faultAt cutShort
+unfolding cutShort
 whole-record n s before at le t =
-    let both = not-or (ltb (length s - at) 6) (ltb (length s - (at + 6)) (lengthAt s at)) (first-row (cutShort s at) _ t) in
+    let both = neither (ltb (length s - at) 6) (ltb (length s - (at + 6)) (lengthAt s at)) (clean n s before at t .whole) in
     let a : 6 ≤ length s - at = ltb-false (length s - at) 6 (both .0) in
     let b : lengthAt s at ≤ length s - (at + 6) = ltb-false (length s - (at + 6)) (lengthAt s at) (both .1) in
     omega arith

@@ -15,7 +15,7 @@ use Rattle.trm_image.specs.Records.{lengthAt, kindAt, begins}
 use Rattle.trm_image.specs.Refused.{countAt, lineAt, inputAt}
 use Rattle.trm_image.specs.Meaning.{payloadWords, runsIn}
 use Rattle.trm_image.specs.Written.{bytes2, bytes4, wordBytes, recordBytes, runBytes, runsOk}
-use Rattle.trm_image.proofs.Laws.Bytes.{one-byte, two-bytes, four-bytes, word-bytes, length-wordBytes}
+use Rattle.trm_image.proofs.Laws.Bytes.{one-byte, two-bytes, four-bytes, word-bytes, le4-small, length-wordBytes}
 use Rattle.trm_image.proofs.Laws.Accepted.{Runs, Next, runs-next, runs-end, length-wordsAt}
 
 -- the words of a payload of whole words
@@ -92,6 +92,7 @@ module _ (n : ℕ) (s : List ℕ) (small : allAtMost 255 s ≡ true) where
             ∙ (le-leb 1 (countAt s at) (x .one)
             &t le-leb (countAt s at) 65536 (x .most)
             &t le-leb (lineAt s at) 7 (x .line)
+            &t le-leb (inputAt s at) 4294967295 (le4-small s small (at + 11))
             &t more .ok);
       }
 
