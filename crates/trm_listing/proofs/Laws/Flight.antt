@@ -18,6 +18,7 @@ use Rattle.trm_reference.specs.Interrupt.{stalled}
 use Rattle.trm_reference.specs.Charge.{turnsCacheOff}
 use Rattle.trm_reference.specs.Trace.{Pins, After}
 use Rattle.trm_cache.specs.Cache.{Cache, countDirty, cleaned}
+use Rattle.trm_core.specs.declared.record.Running.{Running}
 use Rattle.trm_core.specs.declared.record.Scalars.{Scalars}
 use Rattle.trm_core.specs.Record.{Machine, Lent, visibleOf, cacheOf}
 use Rattle.trm_core.specs.Clock.{Moved, quiet, written, writing, filling, writeLine, advance, isLast, finish, worked, unheld, clockOf}
@@ -30,7 +31,7 @@ module _ (c : Scalars) (ca : Cache) (s : List ℕ) where
   written-busy : (off : Bool) (l : ℕ) → Busy (written paperGeometry off l c ca s)
   unfolding written
   written-busy off l = chosen Busy off
-      (chosen (λ r. r .phase ≢ 0) (eqb (countDirty paperGeometry ca) 0) (λ z. absurd (omega (arith, z))) (λ z. absurd (omega (arith, z))))
+      (chosen (λ (r : Running). r .phase ≢ 0) (eqb (countDirty paperGeometry ca) 0) (λ z. absurd (omega (arith, z))) (λ z. absurd (omega (arith, z))))
       (λ z. absurd (omega (arith, z)))
 
   filling-busy : (b l k : ℕ) → Busy (filling paperGeometry b l k c ca s)

@@ -1,4 +1,8 @@
 -- The proof of trm_listing::inner::listed::went.
+use mathlib.Core.Path.{refl}
+use native.Mathlib.Omega.{arith}
+use borrow.Author.Tests.{eq-eqb, ne-eqb}
+use Rattle.trm_text.proofs.Laws.Wrote.{wrote-none}
 use borrow.Author.Needs.{needs}
 use Rattle.trm_listing.proofs.inner.listed.went.Statement.{statement}
 use Rattle.trm_listing.proofs.inner.listed.went.Tie as tie
@@ -7,28 +11,28 @@ use Rattle.trm_listing.proofs.inner.listed.went.Lts as lts
 use Rattle.trm_text.proofs.inner.lines.put_word_line.Reads as put-word-line-reads
 
 sub-t8 : tie.Need-sub-t8
-sub-t8 c = search needs
+sub-t8 c = omega (arith, c .before .before .before .before .before .pre .1)
 
 add-t9 : tie.Need-add-t9
-add-t9 c = search needs
+add-t9 c = omega (arith, c .before .before .before .before .before .before .pre .2)
 
 returns : tie.Need-returns
-returns c = search needs
+returns c = (record { scalars = refl; left = refl; took = rw (ne-eqb _ 1 (c .before .before .if1 .taken)); text = rw (ne-eqb _ 1 (c .before .before .if1 .taken)) (wrote-none _ _); fits = omega (arith, c .before .before .before .before .before .before .pre .0) })
 
 add-put-word-line : tie.Need-add-put-word-line
-add-put-word-line c = search needs
+add-put-word-line c = omega (arith, c .before .before .before .before .before .before .pre .2)
 
 put-word-line-requires : tie.Need-put-word-line-requires
-put-word-line-requires c κs = search needs
+put-word-line-requires c κs = c .before .before .before .before .before .before .pre .0
 
 sub-t13 : tie.Need-sub-t13
-sub-t13 c = search needs
+sub-t13 c = omega (arith, c .before .before .before .before .before .before .before .before .before .before .pre .1)
 
 same-length : tie.Need-same-length
 same-length c = search needs
 
 returns-2 : tie.Need-returns-2
-returns-2 c = search needs
+returns-2 c = record { scalars = refl; left = refl; took = rw (eq-eqb _ 1 (c .before .before .before .before .before .before .if1 .left)); text = rw (eq-eqb _ 1 (c .before .before .before .before .before .before .if1 .left)) (c .before .before .before .put-word-line .ensures .0); fits = omega (arith, c .before .before .before .before .before .before .before .before .before .before .pre .0, c .before .before .before .put-word-line .ensures .1, c .before .before .before .put-word-line .ensures .0 .long) }
 
 pub went-spec : {M : Type 1} → statement M
 went-spec =
