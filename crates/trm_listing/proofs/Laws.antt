@@ -4,3 +4,4 @@
 pub mod Flight
 pub mod Text
 pub mod Onward
+pub mod Gone

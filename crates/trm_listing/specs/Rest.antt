@@ -50,6 +50,7 @@ pub record Onward (p : List ℕ) (i : Pins) (l : Listed) (x : Lent) (b : List �
   pub long : length b′ ≡ length b
   pub fits : l′ .len ≤ length b′
   pub fewer : l′ .left ≤ l .left
+  pub stored : length (x′ .store) ≡ length (x .store)
 
 -- one clock that takes no interrupt, as the code makes it: r is what the clock left, w the word at PC
 pub record Went (l : Listed) (r : Clocked) (w : ℕ) (b : List ℕ) (h : Listed) (b′ : List ℕ) : Type 0 where

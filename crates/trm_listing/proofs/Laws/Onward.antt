@@ -9,7 +9,9 @@ use mathlib.Core.List.{List, [], _∷_, _++_, append-assoc}
 use native.Mathlib.Omega.{arith}
 use lib.ListN.{length, take, replicate}
 use lib.Dec.{eqb}
-use Rattle.trm_laws.proofs.Tests.{chosen}
+use borrow.Author.Tests.{eqb-true}
+use Rattle.trm_laws.proofs.Tests.{both, chosen}
+use Rattle.trm_word.specs.Address.{storeLengthOk}
 use Rattle.trm_reference.specs.Geometry.{paperGeometry}
 use Rattle.trm_reference.specs.Visible.{wordAt}
 use Rattle.trm_reference.specs.Access.{silent}
@@ -20,6 +22,7 @@ use Rattle.trm_core.specs.declared.record.Scalars.{Scalars}
 use Rattle.trm_core.specs.Record.{Lent, whole}
 use Rattle.trm_core.specs.Clock.{clockOf}
 use Rattle.trm_core.specs.Claims.{Kept}
+use Rattle.trm_core.specs.Refusals.{storeOk}
 use Rattle.trm_core.proofs.Laws.Kept.{record-kept}
 use Rattle.trm_core.proofs.Laws.Rows.{Passed}
 use Rattle.trm_plan.proofs.Laws.Facts.{paper-ok}
@@ -39,6 +42,16 @@ one-more n i is h =
     let e : n ≡ suc (n - 1) = omega arith in
     sym (ap (λ k. replicate k i ++ is) e)
 
+-- a store that passes row 4 is as long as the record says
+store-long : (x : Lent) → storeOk (x .machine) (x .store) ≡ true → length (x .store) ≡ x .machine .scalars .size
+unfolding storeOk
+store-long x = both (storeLengthOk (length (x .store))) (eqb (length (x .store)) (x .machine .scalars .size))
+    (λ _ b. eqb-true (length (x .store)) (x .machine .scalars .size) b)
+
+stored-long : (x y : Lent) → storeOk (x .machine) (x .store) ≡ true → storeOk (y .machine) (y .store) ≡ true
+    → y .machine .scalars .size ≡ x .machine .scalars .size → length (y .store) ≡ length (x .store)
+stored-long x y a b e = store-long y b ∙ e ∙ sym (store-long x a)
+
 module _ (p : List ℕ) (i : Pins) where
   pub passed-able : {x : Lent} {took left : ℕ} → Able p x took left i → Passed paperGeometry p (x .machine) (x .store)
   passed-able a = record { program = a .program; store = a .store; rule = a .rule }
@@ -47,8 +60,8 @@ module _ (p : List ℕ) (i : Pins) where
       → Able p (clockOf paperGeometry p x i .state) took′ (left - 1) i
   able-clock x took left took′ a some le =
       let k : Kept paperGeometry p (clockOf paperGeometry p x i .state) =
-          record-kept paperGeometry p x i paper-ok (a .shaped) (clock-free p (x .machine) (x .store) (i .line) (passed-able a) (a .low)
-          (omega (arith, a .room, some))) in
+      record-kept paperGeometry p x i paper-ok (a .shaped) (clock-free p (x .machine) (x .store) (i .line) (passed-able a) (a .low)
+      (omega (arith, a .room, some))) in
       let n = clock-adds p x i .adds in
       record {
         program = a .program;
@@ -61,7 +74,7 @@ module _ (p : List ℕ) (i : Pins) where
       }
 
   pub onward-none : (l : Listed) (x : Lent) (b : List ℕ) → Able p x (l .took) (l .left) i → l .len ≤ length b → Onward p i l x b l x b
-  onward-none l x b a h = record { able = a; text = λ _. refl; long = refl; fits = h; fewer = omega arith }
+  onward-none l x b a h = record { able = a; text = λ _. refl; long = refl; fits = h; fewer = omega arith; stored = refl }
 
   pub onward-then : {l l′ l″ : Listed} {x x′ x″ : Lent} {b b′ b″ : List ℕ} → Onward p i l x b l′ x′ b′ → Onward p i l′ x′ b′ l″ x″ b″
       → Onward p i l x b l″ x″ b″
@@ -71,6 +84,7 @@ module _ (p : List ℕ) (i : Pins) where
     long = g .long ∙ f .long;
     fits = g .fits;
     fewer = omega (arith, f .fewer, g .fewer);
+    stored = g .stored ∙ f .stored;
   }
 
   module _ (l : Listed) (rs : List ℕ) (ca : Cache) (s b : List ℕ) (a : Able p (lentOf l rs ca s) (l .took) (l .left) i)
@@ -93,6 +107,8 @@ module _ (p : List ℕ) (i : Pins) where
       long = long;
       fits = fits;
       fewer = omega (arith, left);
+      stored = ap (λ z. length (z .store)) e ∙ stored-long x (clockOf paperGeometry p x i .state) (a .store)
+          (able-clock x (l .took) (l .left) t a some le .store) (clock-adds p x i .size);
     }
 
     pub onward-went : interruptAt x i ≡ 0
@@ -102,7 +118,7 @@ module _ (p : List ℕ) (i : Pins) where
     onward-went z r rs′ ca′ s′ e w at h b′ g =
         let done = ap (λ t. t .out .done) e in
         let clock : r .scalars .counts .clocks ≡ l .scalars .counts .clocks + 1 =
-            ap (λ t. t .state .machine .scalars .counts .clocks) e ∙ clock-adds p x i .adds in
+        ap (λ t. t .state .machine .scalars .counts .clocks) e ∙ clock-adds p x i .adds in
         one
         (cond (eqb (r .done) 1)
         (lineBytes (record { clock = r .scalars .counts .clocks; at = l .scalars .pc; shown = word w; took = l .took + 1 })) [])
@@ -118,7 +134,7 @@ module _ (p : List ℕ) (i : Pins) where
         → (h : Listed) (b′ : List ℕ) → Interrupted l c to b h b′ → Onward p i l x b h (lentOf h rs′ ca s) b′
     onward-interrupted to at z c rs′ e h b′ g =
         let clock : c .counts .clocks ≡ l .scalars .counts .clocks + 1 =
-            ap (λ t. t .state .machine .scalars .counts .clocks) e ∙ clock-adds p x i .adds in
+        ap (λ t. t .state .machine .scalars .counts .clocks) e ∙ clock-adds p x i .adds in
         one (lineBytes (record { clock = c .counts .clocks; at = l .scalars .pc; shown = irq (to - 2); took = 1 })) 0
         (λ is. rw clock (text-interrupt p x i (l .took) is f to at z))
         h (lentOf h rs′ ca s) b′

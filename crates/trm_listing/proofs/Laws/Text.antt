@@ -59,8 +59,8 @@ module _ (p : List ℕ) (x : Lent) (i : Pins) (took : ℕ) (is : List Pins) wher
         }) ++ textFrom p after 0 is
     unfolding textFrom lineOf tookAfter linesBytes
     text-interrupt to e z = rw (f, e, ne-eqb to 0 z) (ap (λ b. b ++ textFrom p after 0 is) (append-nil (lineBytes (record {
-          clock = x .machine .scalars .counts .clocks + 1;
-          at = x .machine .scalars .pc;
-          shown = irq (to - 2);
-          took = 1;
-        }))))
+      clock = x .machine .scalars .counts .clocks + 1;
+      at = x .machine .scalars .pc;
+      shown = irq (to - 2);
+      took = 1;
+    }))))

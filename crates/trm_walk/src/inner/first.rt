@@ -1,9 +1,8 @@
-// The first clock of a word of 8 to 15, in phase 0: a word of one clock is carried out, any other begins.
+// The first clock of a word, in phase 0: a word of one clock is carried out, any other begins.
 // Paper: the clock table.
-// 0-7 are the listing's own loop's.
+// 0-7 are told apart first, as in a run.
 ghost use mathlib.Core.Path.{_≡_};
 ghost use lib.ListN.{length};
-ghost use Prim.Native.Nat.{_≤_};
 ghost use Rattle.trm_word.specs.Fields.{operation};
 ghost use Rattle.trm_reference.specs.Geometry.{paperGeometry};
 ghost use Rattle.trm_cache.specs.Cache.{cache};
@@ -97,13 +96,16 @@ pub fn first_clock(
     input: u32,
 ) -> Clocked
     requires { ⌜ (Good w (length (now store)) c (now regs) (cache (now full) (now dirty) (now block) (now words)))
-        × (c .running .phase ≡ 0) × (8 ≤ operation w) ⌝ }
+        × (c .running .phase ≡ 0) ⌝ }
     ensures { λ r. ⌜ made r (now (regs .exit)) (cache (now (full .exit)) (now (dirty .exit)) (now (block .exit)) (now (words .exit)))
         (now (store .exit))
         ≡ worked paperGeometry w (length (now (store .entry))) (whole c (now (regs .entry)) (cache (now (full .entry)) (now
         (dirty .entry)) (now (block .entry)) (now (words .entry)))) (now (store .entry)) input ⌝ }
 {
     let op = w / 0x4000 % 16;
+    if op < 8 {
+        return outcome::carried(carry::short(c, regs, w));
+    }
     match op {
         0..=10 => ready::first_arithmetic(c, regs, full, dirty, block, words, store, w, input),
         11 => ready::first_control(c, regs, full, dirty, block, words, store, w, input),
