@@ -1,3 +1,4 @@
+#!/usr/bin/env python3
 # A second reading of the paper: what the listing program prints for an image, refused or run.
 # Called: python3 tests/images/listing.py prints the listing of its standard input; the other scripts here import it.
 # Reads: tests/machine/machine.py, whose clock it runs. It shares nothing with crates/.
