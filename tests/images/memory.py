@@ -99,6 +99,17 @@ clock at word took
 10 003 383FD 1
 end 10 held 0 refills 0 writebacks 0
 ''')
+    # The input word 12345678H turned by 24: its top byte, 18, is below; SUB gives zero and BEQ is taken.
+    yield row('input-of-four-bytes', program(0x0C840, 0x30001, 0x28018, 0x100FF, 0x0C012, 0x38000) + run(8, 0, 0x12345678), '''
+clock at word took
+1 000 0C840 1
+3 001 30001 2
+4 002 28018 1
+5 003 100FF 1
+6 004 0C012 1
+8 005 38000 2
+end 8 held 0 refills 0 writebacks 0
+''')
     # A held clock between the two: its input word does not count.
     yield row('input-of-a-held-clock', polling + run(2) + run(2, 4, 1) + run(4), '''
 clock at word took
