@@ -3,6 +3,7 @@
 // An error is the refusal's number; record, store and buffers are then untouched.
 use crate::cache::Cache;
 use crate::clock::Machine;
+use crate::events::Events;
 use crate::feed::Feed;
 use crate::record::{Record, State};
 use crate::refuse;
@@ -33,7 +34,7 @@ pub fn clock(record: &mut Record, program: &[u32], store: &mut [u32], line: u8, 
     refuse::line(line)?;
     refuse::clocks(record, 1)?;
     let (mut byte, mut moved) = ([0], [0]);
-    let ran = go(record, program, store, Feed::new(&[line], &[input], &mut byte, &mut moved));
+    let ran = trace(record, program, store, Feed::new(&[line], &[input], &mut byte, &mut moved), &mut ());
     Ok(Answer { byte: byte[0], word: moved[0], finished: ran.finished })
 }
 
@@ -51,13 +52,14 @@ pub fn run(
     refuse::buffer(bytes.len(), lines.len())?;
     refuse::buffer(words.len(), lines.len())?;
     refuse::clocks(record, lines.len())?;
-    Ok(go(record, program, store, Feed::new(lines, inputs, bytes, words)))
+    Ok(trace(record, program, store, Feed::new(lines, inputs, bytes, words), &mut ()))
 }
 
-/// Carries out the clocks of the feed.
-fn go(record: &mut Record, program: &[u32], store: &mut [u32], feed: Feed) -> Ran {
+/// Carries out the clocks of the feed without the checks of a call, and tells of each instruction finished and each interrupt.
+/// For a record of `reset` that only accepted calls and traces with the same program and store have moved.
+pub fn trace<E: Events>(record: &mut Record, program: &[u32], store: &mut [u32], feed: Feed, events: &mut E) -> Ran {
     let Record { state, registers, cache } = record;
-    let mut machine = Machine { state, registers, cache, program, store, feed, finished: 0 };
+    let mut machine = Machine { state, registers, cache, program, store, feed, finished: 0, events };
     let used = machine.run();
     Ran { used, finished: machine.finished }
 }

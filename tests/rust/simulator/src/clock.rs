@@ -2,13 +2,14 @@
 // Paper: "Clock by clock": held clocks, interrupts, the phases between two calls.
 // The record has been accepted before. Short instructions are in short.rs, longer ones in flight.rs.
 use crate::cache::Cache;
+use crate::events::Events;
 use crate::feed::Feed;
 use crate::record::{State, ARITHMETIC, LAST, READY, REFILL, WRITE_BACK};
 use crate::short::Left;
 use crate::word;
 
 /// A machine in motion: the record taken apart, and what is lent with it.
-pub struct Machine<'a> {
+pub struct Machine<'a, E> {
     pub state: &'a mut State,
     pub registers: &'a mut [u32; 16],
     pub cache: &'a mut Cache,
@@ -17,9 +18,11 @@ pub struct Machine<'a> {
     pub feed: Feed<'a>,
     /// Instructions finished.
     pub finished: u64,
+    /// Who is told of them.
+    pub events: &'a mut E,
 }
 
-impl Machine<'_> {
+impl<E: Events> Machine<'_, E> {
     /// Uses up the feed and gives the number of clocks used.
     pub fn run(&mut self) -> u64 {
         let clocks = self.feed.clocks.len() as u64;

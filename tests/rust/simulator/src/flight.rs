@@ -3,11 +3,12 @@
 // Each function spends clocks of the feed one by one; when the feed is used up, phase and count are in the record.
 use crate::cache::{line_of, Line};
 use crate::clock::Machine;
+use crate::events::Events;
 use crate::record::{ARITHMETIC, LAST, REFILL, UNCACHED, WRITE_BACK};
 use crate::serial;
 use crate::word;
 
-impl Machine<'_> {
+impl<E: Events> Machine<'_, E> {
     /// After the first clock of a longer instruction, found by the loop in short.rs.
     pub fn begin(&mut self, word: u32) {
         match word::operation(word) {
@@ -139,6 +140,7 @@ impl Machine<'_> {
     }
 
     fn advance(&mut self) {
+        self.events.finished(self.state.pc as usize, self.feed.clocks.len());
         self.state.pc = word::next(self.state.pc as usize) as u64;
         self.finished += 1;
     }

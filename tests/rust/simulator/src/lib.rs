@@ -7,6 +7,7 @@ mod alu;
 mod cache;
 mod calls;
 mod clock;
+mod events;
 mod feed;
 mod flight;
 mod record;
@@ -18,6 +19,8 @@ mod watch;
 mod word;
 
 pub use cache::{Cache, Line};
-pub use calls::{clock, copy, look, reset, run, Answer, Ran};
+pub use calls::{clock, copy, look, reset, run, trace, Answer, Ran};
+pub use events::Events;
+pub use feed::Feed;
 pub use record::{Flags, Record, State};
 pub use watch::{shows_write, watch};

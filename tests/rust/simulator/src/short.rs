@@ -4,6 +4,7 @@
 use crate::alu::{self, Nz};
 use crate::cache::Cache;
 use crate::clock::Machine;
+use crate::events::Events;
 use crate::feed::{self, Feed, STALL};
 use crate::record::{State, LAST, MODE, READY};
 use crate::word::{self, Place};
@@ -18,7 +19,7 @@ pub enum Left {
 }
 
 /// What changes in nearly every clock, taken out of the record.
-struct Core<'r, 'c> {
+struct Core<'r, 'c, E> {
     pc: usize,
     nz: Nz,
     /// Line bits that make a clock more than a step of the program: stall, and interrupts if they can be taken.
@@ -28,11 +29,12 @@ struct Core<'r, 'c> {
     finished: u64,
     clocks: Iter<'c, u8>,
     registers: &'r mut [u32; 16],
+    events: &'r mut E,
 }
 
-impl Machine<'_> {
+impl<E: Events> Machine<'_, E> {
     pub fn short(&mut self) -> Left {
-        let Machine { state, registers, cache, program, store, feed, finished } = self;
+        let Machine { state, registers, cache, program, store, feed, finished, events } = self;
         let (program, size) = (*program, store.len());
         let mut core = Core {
             pc: state.pc as usize,
@@ -42,6 +44,7 @@ impl Machine<'_> {
             finished: *finished,
             clocks: feed.clocks.clone(),
             registers,
+            events: &mut **events,
         };
         if state.phase == LAST {
             if core.used_up(&mut feed.held, state) {
@@ -145,7 +148,7 @@ fn saved(nz: Nz, c: u64, v: u64, pc: usize) -> u32 {
     nz.nzcv(c, v) << 28 | pc as u32
 }
 
-impl Core<'_, '_> {
+impl<E: Events> Core<'_, '_, E> {
     #[inline(always)]
     fn get(&self, number: u32) -> u32 {
         self.registers[(self.bank | number) as usize & 15]
@@ -181,6 +184,7 @@ impl Core<'_, '_> {
 
     #[inline(always)]
     fn go_to(&mut self, pc: usize) {
+        self.events.finished(self.pc, self.clocks.len());
         self.pc = pc;
         self.finished += 1;
     }
@@ -257,7 +261,9 @@ impl Core<'_, '_> {
     #[inline(always)]
     fn interrupt(&mut self, state: &mut State, line: u8) {
         self.registers[15] = saved(self.nz, state.flags.c, state.flags.v, self.pc);
-        self.pc = if u32::from(line) & state.status as u32 & 1 != 0 { 2 } else { 3 };
+        let first = u32::from(line) & state.status as u32 & 1 != 0;
+        self.events.interrupted(self.pc, if first { 0 } else { 1 }, self.clocks.len());
+        self.pc = if first { 2 } else { 3 };
         self.change_status(state, state.status as u32 | MODE);
     }
 

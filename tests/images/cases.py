@@ -1,0 +1,21 @@
+# All image cases in their order: a name, the bytes, and what must be printed as far as it was written by hand.
+# Called: imported by tests/images/make and run; it does nothing when run.
+# Reads: tests/images/runs.py, interrupts.py, memory.py, edges.py and long.py beside it.
+import sys
+
+sys.dont_write_bytecode = True
+import edges
+import interrupts
+import long
+import memory
+import runs
+
+PARTS = [part for group in (runs, interrupts, memory, edges, long) for part in group.PARTS]
+
+
+def cases():
+    """[(name, image, text or None)]; a name has its number in front, so that the files stand in this order."""
+    rows = [row for part in PARTS for row in part()]
+    named = [(f'{at:03}-{name}', image, text) for at, (name, image, text) in enumerate(rows, 1)]
+    assert len({name for name, _, _ in rows}) == len(rows), 'two cases of one name'
+    return named
