@@ -1,0 +1,105 @@
+// The four groups of random images: what their programs and clocks hold, how the switches stand, and what the weight is.
+// Paper: "a simulation of the published circuit, its slips above set aside". Source: Part 1.
+// A switch that a group does not name stays on Published, so each group says itself what it sets aside.
+use crate::programs::{program, Kind};
+use crate::random::Random;
+use circuit::{Image, Run, Setting, Switch, Switches, TABLE};
+
+pub struct Group {
+    pub name: &'static str,
+    pub weight: &'static str,
+    pub kind: Kind,
+    pub held: bool,
+    /// The switches set on Document01 beyond those of the group before.
+    pub more: &'static [Switch],
+}
+
+pub const GROUPS: [Group; 4] = [
+    Group {
+        name: "devices only",
+        weight: "evidence from the published text: listed slips and 5, 6, 7, 14, 16, 17, 18 set aside, first NOP not counted",
+        kind: Kind { interrupts: false, memory: false },
+        held: false,
+        more: &[
+            Switch::Z32,
+            Switch::RorNz,
+            Switch::Mul33,
+            Switch::DivTop,
+            Switch::NopIrq,
+            Switch::Nz,
+            Switch::DivNp,
+            Switch::Adr16,
+            Switch::Io1,
+            Switch::Reset,
+            Switch::HoldReg,
+            Switch::DmIo,
+            Switch::Fill,
+        ],
+    },
+    Group {
+        name: "held clocks",
+        weight: "weaker: 11-13 set aside too, so that a held clock stops every register",
+        kind: Kind { interrupts: false, memory: false },
+        held: true,
+        more: &[Switch::HoldLd, Switch::HoldMul, Switch::HoldRti],
+    },
+    Group {
+        name: "interrupts",
+        weight: "weaker still: 8-10 and 15 set aside too, so that the interrupt is document 01's",
+        kind: Kind { interrupts: true, memory: false },
+        held: true,
+        more: &[Switch::AckMask, Switch::PsrIrq, Switch::AckLine, Switch::Irq1],
+    },
+    Group {
+        name: "local memory",
+        weight: "no evidence from the source: our own reading of document 01's memory and cache",
+        kind: Kind { interrupts: true, memory: true },
+        held: true,
+        more: &[Switch::Memory],
+    },
+];
+
+/// The switches of a group: its own and those of the groups before it on Document01.
+pub fn switches(group: usize) -> Switches {
+    let on = GROUPS[..=group].iter().flat_map(|group| group.more);
+    on.fold(Switches::all(Setting::Published), |all, &switch| all.with(switch, Setting::Document01))
+}
+
+/// A random image of a group.
+pub fn image(group: &Group, random: &mut Random) -> Image {
+    let program = program(random, group.kind);
+    let data = match random.below(3) {
+        _ if !group.kind.memory => 0,
+        0 => 0,
+        1 => 2048,
+        _ => random.below(2048),
+    };
+    let data = (0..data).map(|_| random.word()).collect();
+    let clocks = random.between(2000, 6000);
+    Image { program, data, runs: runs(group, random, clocks) }
+}
+
+/// Line bytes in stretches; a stretch of held clocks is short.
+fn runs(group: &Group, random: &mut Random, clocks: u32) -> Vec<Run> {
+    let mut runs = Vec::new();
+    let mut left = clocks;
+    // The opening runs undisturbed in half of the images.
+    let mut longest = if random.percent(50) { 60 } else { 5 };
+    while left > 0 && runs.len() < 2000 {
+        let held = group.held && random.percent(35);
+        let lines = match group.kind.interrupts && random.percent(45) {
+            true => random.bits(2) as u8,
+            false => 0,
+        };
+        let count = random.between(1, if held { 4 } else { longest }).min(left);
+        runs.push(Run { count, line: lines | u8::from(held) << 2, input: random.word() });
+        longest = random.pick(&[1, 3, 12, 40, if group.held { 20 } else { 200 }]);
+        left -= count;
+    }
+    runs
+}
+
+/// The name of a switch.
+pub fn name(switch: Switch) -> &'static str {
+    TABLE[switch as usize].name
+}
