@@ -76,9 +76,7 @@ impl Cache {
             Request::Load(_) if !on => self.count == 5,
             Request::Store(..) if !on => self.count == 4,
             Request::Load(_) => self.phase == Phase::Last,
-            Request::Store(address, _) => {
-                self.phase == Phase::Last || self.phase == Phase::Ready && self.hit(address)
-            }
+            Request::Store(address, _) => self.phase == Phase::Last || self.phase == Phase::Ready && self.hit(address),
         }
     }
 

@@ -125,9 +125,8 @@ mod tests {
     use crate::switches::{Setting, Switch};
 
     /// The paper's own example.
-    const BYTES: [u8; 33] = [
-        0x0C, 0, 0, 0, 1, 0, 5, 0, 0, 0, 3, 0, 2, 0, 0xFF, 0xBB, 3, 0, 9, 0, 0, 0, 3, 0, 0x28, 0, 0, 0, 0, 0, 0, 0, 0,
-    ];
+    const BYTES: [u8; 33] =
+        [0x0C, 0, 0, 0, 1, 0, 5, 0, 0, 0, 3, 0, 2, 0, 0xFF, 0xBB, 3, 0, 9, 0, 0, 0, 3, 0, 0x28, 0, 0, 0, 0, 0, 0, 0, 0];
     const TEXT: &str = "clock at word took\n1 000 00005 1\n34 001 20003 33\n36 002 3BBFF 2\n38 002 3BBFF 2\n\
                         40 002 3BBFF 2\nend 40 held 0 refills 0 writebacks 0\n";
 

@@ -92,8 +92,9 @@ fn runs(group: &Group, random: &mut Random, clocks: u32) -> Vec<Run> {
             false => 0,
         };
         let count = random.between(1, if held { 4 } else { longest }).min(left);
-        runs.push(Run { count, line: lines | u8::from(held) << 2, input: random.word() });
-        longest = random.pick(&[1, 3, 12, 40, if group.held { 20 } else { 200 }]);
+        let input = if random.percent(75) { random.bits(32) } else { random.word() };
+        runs.push(Run { count, line: lines | u8::from(held) << 2, input });
+        longest = random.pick(&[1, 3, 12, 40, if group.held { 20 } else { 90 }]);
         left -= count;
     }
     runs

@@ -1,8 +1,10 @@
 // Random programs: an opening that sets up both banks, interrupt entries at 2 and 3, and a body of random words.
-// Paper: "What a programmer sees". Registers 5 and 6 are device bases in both banks where a program has no local memory.
+// Paper: "What a programmer sees". Registers 5 and 6 are device bases in both banks; other bases are local memory.
 // Values come to light in a listing by branches on flags and by jumps through registers; full programs have 4,096 words.
 use crate::random::Random;
 use circuit::words::*;
+
+const XOR: u32 = 7;
 
 /// What a group's programs may hold.
 #[derive(Clone, Copy)]
@@ -22,7 +24,7 @@ struct Maker<'a> {
 const START: u32 = 6;
 
 pub fn program(random: &mut Random, kind: Kind) -> Vec<u32> {
-    let length = if random.percent(60) { 4096 } else { random.between(60, 400) };
+    let length = if random.percent(90) { 4096 } else { random.between(60, 400) };
     let mut maker = Maker { random, kind, words: Vec::new(), length };
     maker.opening();
     while maker.words.len() < length as usize {
@@ -38,13 +40,14 @@ impl Maker<'_> {
         let entries = [branch(ALWAYS, START as i32 - 1), NEVER];
         self.words.extend(entries);
         for _ in 0..2 {
-            let first = if self.random.percent(40) { rti(7) } else { self.short() };
+            let first = if self.random.percent(30) { rti(7) } else { self.short() };
             self.words.push(first);
         }
         self.words.extend([rti(7), NEVER]);
+        // Lines are enabled only when both banks have their bases.
         for status in [4, self.status() & 11] {
-            self.words.push(ldpsr(status));
             self.bases();
+            self.words.push(ldpsr(status));
         }
     }
 
@@ -65,13 +68,9 @@ impl Maker<'_> {
         }
     }
 
-    /// A register that may be written: 5 and 6 stay where they are device bases.
+    /// A register that may be written: 5 and 6 stay device bases.
     fn target(&mut self) -> u32 {
-        if self.kind.memory {
-            self.random.bits(3)
-        } else {
-            self.random.pick(&[0, 1, 2, 3, 4, 7])
-        }
+        self.random.pick(&[0, 1, 2, 3, 4, 7])
     }
 
     /// Unused bits set, in some words.
@@ -126,29 +125,86 @@ impl Maker<'_> {
         }
     }
 
+    /// A branch forward.
     fn branch(&mut self) -> u32 {
-        let forward = self.random.percent(85);
-        let offset = self.random.between(0, 12) as i32;
-        branch(self.random.bits(4), if forward { offset } else { -offset })
+        branch(self.random.bits(4), self.random.between(0, 6) as i32)
     }
 
-    /// A jump through a register; in a short program a literal is put into it before.
+    /// A branch back on a bit of an input word, so that the loop ends when the input changes.
+    fn back(&mut self) {
+        let (d, (base, offset)) = (self.target(), self.device());
+        let condition = self.random.between(CS, CS + 3);
+        self.words.push(load(d, base, offset));
+        self.words.extend([literal(ROR, d, self.random.bits(5)), branch(condition, -3)]);
+    }
+
+    /// A jump through a register: its value joined with an input word, so that it shows and no loop stays for ever.
     fn jump(&mut self) {
         let (d, s) = (self.target(), self.target());
-        if self.length < 4096 || self.random.percent(20) {
-            let value = self.random.below(self.length.min(1024));
+        let t = if s == 0 { 1 } else { 0 };
+        if self.length < 4096 {
+            let value = self.random.below(self.length);
             self.words.push(literal(MOV, s, value));
-        } else if self.random.percent(60) {
-            let count = self.random.bits(5);
-            self.words.push(literal(ROR, s, count));
+        } else {
+            let (base, offset) = self.device();
+            let join = self.random.pick(&[ADD, SUB, XOR]);
+            self.words.extend([load(t, base, offset), register(join, s, t)]);
+            if self.random.percent(60) {
+                self.words.push(literal(ROR, s, self.random.bits(5)));
+            }
         }
         let unused = self.noise(0xF8);
-        let word = match self.random.below(5) {
+        // Mostly the register changes too, so that a word that jumps to itself does so once.
+        let word = match self.random.below(10) {
             0 => jump_link(d, s),
             1 => rti(s) | self.noise(0x3A00),
-            _ => jump(s) | self.noise(0x3800),
+            2 => jump(s) | self.noise(0x3800),
+            _ => jump_link(s, s),
         };
         self.words.push(word | unused);
+    }
+
+    /// An edge value, an operation on it, and a branch on its flags.
+    fn edge(&mut self) {
+        let (d, s) = (self.target(), self.target());
+        let (value, count) = (self.random.pick(&[0, 1, 1, 1, 2, 3, 1023]), self.random.pick(&[0, 1, 1, 2, 5, 31]));
+        self.words.extend([literal(self.random.pick(&[MOV, NOT]), d, value), literal(ROR, d, count)]);
+        let operation = self.random.pick(&[NOT, ADD, SUB, MUL, DIV, DIV, ROR]);
+        let word = match self.random.below(3) {
+            0 => register(operation, d, d),
+            1 => register(operation, d, s),
+            _ => literal(operation, d, self.random.pick(&[0, 1, 2, 3, 7, 31])),
+        };
+        let after = self.branch();
+        self.words.extend([word, after]);
+        if operation == DIV || operation == MUL {
+            self.words.push(high(s));
+        }
+    }
+
+    /// Zero by a sum that wraps and by NOT, and -2^31 divided: three of the listed slips.
+    fn slip(&mut self) {
+        let d = self.target();
+        match self.random.below(3) {
+            0 => self.words.extend([literal(NOT, d, 0), register(NOT, d, d)]),
+            1 => self.words.extend([literal(MOV, d, 1), literal(ROR, d, 1), register(ADD, d, d)]),
+            _ => {
+                let divisor = self.random.between(1, 9);
+                self.words.extend([literal(MOV, d, 1), literal(ROR, d, 1), literal(DIV, d, divisor)]);
+            }
+        }
+        let condition = self.random.pick(&[EQ, EQ + 1, MI, MI + 1]);
+        self.words.push(branch(condition, self.random.between(1, 3) as i32));
+    }
+
+    /// Local memory where a shorter address, or a store to a device, would be seen: from 7C0H and from 0FC0H.
+    fn shadow(&mut self) {
+        let s = self.random.below(5);
+        let high_part = self.random.pick(&[31, 63]);
+        self.words.extend([literal(MOV, s, high_part), literal(ROR, s, 26)]);
+        let (d, offset) = (self.target(), self.random.bits(6));
+        let count = self.random.bits(5);
+        self.words.extend([load(d, s, offset), literal(ROR, d, count), branch(CS, 1)]);
     }
 
     fn call(&mut self) -> u32 {
@@ -159,15 +215,19 @@ impl Maker<'_> {
     /// Some words of the body.
     fn piece(&mut self) {
         let word = match self.random.below(100) {
-            0..=43 => self.short(),
-            44..=48 => self.operation(MUL),
-            49..=52 => self.operation(DIV),
-            53..=56 => high(self.target()) | self.noise(0x3F7),
-            57..=72 => self.access(),
-            73..=87 => self.branch(),
-            88..=89 => self.call(),
-            90..=94 => return self.jump(),
-            95..=97 => ldpsr(self.status()) | self.noise(0x3BF0),
+            0..=38 => self.short(),
+            39..=41 => self.operation(MUL),
+            42..=44 => self.operation(DIV),
+            45..=48 => high(self.target()) | self.noise(0x3F7),
+            49..=62 => self.access(),
+            63..=77 => self.branch(),
+            78 => self.call(),
+            79..=87 => return self.jump(),
+            88..=90 => return self.edge(),
+            91..=92 => return self.slip(),
+            93 => return self.back(),
+            94..=95 => ldpsr(self.status()) | self.noise(0x3BF0),
+            96..=97 if self.kind.memory => return self.shadow(),
             _ => NEVER,
         };
         self.words.push(word);

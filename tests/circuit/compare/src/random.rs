@@ -4,21 +4,8 @@
 
 pub struct Random(u64);
 
-const EDGES: [u32; 13] = [
-    0,
-    1,
-    2,
-    7,
-    0x3FF,
-    0xFFBF,
-    0xFFC0,
-    0x7FFF_FFFF,
-    0x8000_0000,
-    0x8000_0001,
-    0xFFFF_FFFF,
-    0xFFFF_FFFE,
-    0xFFFF_FFC0,
-];
+const EDGES: [u32; 13] =
+    [0, 1, 2, 7, 0x3FF, 0xFFBF, 0xFFC0, 0x7FFF_FFFF, 0x8000_0000, 0x8000_0001, 0xFFFF_FFFF, 0xFFFF_FFFE, 0xFFFF_FFC0];
 
 impl Random {
     pub fn new(seed: u64) -> Random {

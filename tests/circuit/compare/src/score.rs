@@ -82,12 +82,17 @@ impl Noticed {
 
     /// Prints what each switch on Published alone changes; one failure for each that nothing notices.
     pub fn judge(&self, score: &mut Score) {
-        println!("one switch on Published: noticed by its program, and in how many images of each group it was turned in");
+        println!(
+            "one switch on Published: noticed by its program, and in how many images of each group it was turned in"
+        );
         for (at, Row { name, listed, .. }) in TABLE.iter().enumerate() {
             let counts = self.images[at].map(|(found, of)| if of == 0 { "-".into() } else { format!("{found}/{of}") });
             let listed = if *listed { "listed" } else { "" };
             let program = if self.programs[at] { "program" } else { "no program" };
-            println!("{at:>4} {name:8} {listed:6} {program:10} {}", counts.map(|count| format!("{count:>6}")).join(" "));
+            println!(
+                "{at:>4} {name:8} {listed:6} {program:10} {}",
+                counts.map(|count| format!("{count:>6}")).join(" ")
+            );
             let seen = self.programs[at] || self.images[at].iter().any(|&(found, _)| found > 0);
             score.judge(name, if seen { Ok(()) } else { Err("nothing notices this switch".into()) });
         }

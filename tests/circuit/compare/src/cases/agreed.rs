@@ -46,11 +46,7 @@ pub const AGREED: &[Agreed] = &[
         what: "R7 is no base: with FFFFFFC0H in it LD R7 0 reads no device",
         program: &[literal(NOT, 7, 63), load(0, 7, 0), LONG],
         steps: &[Step::Clocks(3, 0, 9)],
-        expect: Expect {
-            lines: &[Word(1, 0, 1), Word(3, 1, 2)],
-            accesses: &[],
-            state: &[State::Register(0, 0)],
-        },
+        expect: Expect { lines: &[Word(1, 0, 1), Word(3, 1, 2)], accesses: &[], state: &[State::Register(0, 0)] },
     },
     Agreed {
         what: "LD and ST of a device take 2 clocks and 1",

@@ -60,15 +60,7 @@ pub const CASES: &[Case] = &[
         "line 0 always high, a handler of RTI alone: one word of the program a round, or none",
         &[AROUND, LONG, rti(7), LONG, ldpsr(1), FIRST, SECOND, FIRST],
         &[high(12)],
-        &[
-            Word(2, 0, 2),
-            Word(3, 4, 1),
-            Word(4, 5, 1),
-            Irq(6, 6, 0, 2),
-            Word(8, 2, 2),
-            Word(9, 6, 1),
-            Irq(11, 7, 0, 2),
-        ],
+        &[Word(2, 0, 2), Word(3, 4, 1), Word(4, 5, 1), Irq(6, 6, 0, 2), Word(8, 2, 2), Word(9, 6, 1), Irq(11, 7, 0, 2)],
         &[
             Word(2, 0, 2),
             Word(3, 4, 1),

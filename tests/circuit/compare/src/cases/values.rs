@@ -82,13 +82,7 @@ pub const CASES: &[Case] = &[
     Case {
         switch: Switch::RorNz,
         what: "1 ROR 1, Z alone",
-        program: &[
-            literal(MOV, 0, 1),
-            literal(ROR, 0, 1),
-            branch(EQ, 1),
-            literal(MOV, 1, 2),
-            literal(MOV, 1, 3),
-        ],
+        program: &[literal(MOV, 0, 1), literal(ROR, 0, 1), branch(EQ, 1), literal(MOV, 1, 2), literal(MOV, 1, 3)],
         base: &[],
         steps: &[quiet(5)],
         published: listing(&[Word(1, 0, 1), Word(2, 1, 1), Word(4, 2, 2), Word(5, 4, 1)]),
@@ -113,14 +107,7 @@ pub const CASES: &[Case] = &[
             state: &[State::Register(0, 0), State::High(0)],
         },
         document01: Expect {
-            lines: &[
-                Word(1, 0, 1),
-                Word(2, 1, 1),
-                Word(35, 2, 33),
-                Word(36, 3, 1),
-                Word(37, 4, 1),
-                Word(38, 5, 1),
-            ],
+            lines: &[Word(1, 0, 1), Word(2, 1, 1), Word(35, 2, 33), Word(36, 3, 1), Word(37, 4, 1), Word(38, 5, 1)],
             accesses: &[],
             state: &[State::Register(0, 0x8000_0000), State::High(0)],
         },
@@ -139,14 +126,7 @@ pub const CASES: &[Case] = &[
         base: &[],
         steps: &[Step::Clocks(7, 0, 9)],
         published: Expect {
-            lines: &[
-                Word(1, 0, 1),
-                Word(2, 1, 1),
-                Word(4, 2, 2),
-                Word(5, 3, 1),
-                Word(6, 4, 1),
-                Word(7, 5, 1),
-            ],
+            lines: &[Word(1, 0, 1), Word(2, 1, 1), Word(4, 2, 2), Word(5, 3, 1), Word(6, 4, 1), Word(7, 5, 1)],
             accesses: &[(4, 1, 9)],
             state: &[State::Register(1, 9)],
         },
@@ -159,13 +139,7 @@ pub const CASES: &[Case] = &[
     Case {
         switch: Switch::DivNp,
         what: "7 DIV 0: -1 and H 7, or 0 and H 7",
-        program: &[
-            literal(MOV, 0, 7),
-            literal(DIV, 0, 0),
-            branch(MI, 1),
-            literal(MOV, 1, 1),
-            literal(MOV, 1, 2),
-        ],
+        program: &[literal(MOV, 0, 7), literal(DIV, 0, 0), branch(MI, 1), literal(MOV, 1, 1), literal(MOV, 1, 2)],
         base: &[],
         steps: &[quiet(37)],
         published: Expect {
@@ -198,14 +172,7 @@ pub const CASES: &[Case] = &[
             state: &[State::Register(0, 0xFFFF_FFFF), State::High(5)],
         },
         document01: Expect {
-            lines: &[
-                Word(1, 0, 1),
-                Word(2, 1, 1),
-                Word(35, 2, 33),
-                Word(36, 3, 1),
-                Word(37, 4, 1),
-                Word(38, 5, 1),
-            ],
+            lines: &[Word(1, 0, 1), Word(2, 1, 1), Word(35, 2, 33), Word(36, 3, 1), Word(37, 4, 1), Word(38, 5, 1)],
             accesses: &[],
             state: &[State::Register(0, 0), State::High(7)],
         },
