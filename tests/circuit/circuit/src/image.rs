@@ -39,8 +39,8 @@ pub fn read(bytes: &[u8]) -> Option<Image> {
         let kind = u16::from_le_bytes([head[4], head[5]]);
         let payload = rest.get(6..)?.get(..length)?;
         match (last, kind) {
-            (0, 1) if length % 4 == 0 && (4..=16_384).contains(&length) => image.program = words(payload),
-            (1, 2) if length % 4 == 0 && length <= STORE * 4 => image.data = words(payload),
+            (0, 1) if length.is_multiple_of(4) && (4..=16_384).contains(&length) => image.program = words(payload),
+            (1, 2) if length.is_multiple_of(4) && length <= STORE * 4 => image.data = words(payload),
             (1..=3, 3) if length == 9 => {
                 image.runs.push(Run { count: word(payload), line: payload[4], input: word(&payload[5..]) })
             }

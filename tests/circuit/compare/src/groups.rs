@@ -12,7 +12,13 @@ pub struct Group {
     pub held: bool,
     /// The switches set on Document01 beyond those of the group before.
     pub more: &'static [Switch],
+    /// Switches that the group's listings must show, beyond those of the group before, when one alone is on Published.
+    /// In no group: IO1 (no listing has device accesses), RESET (an image has one), PSRIRQ and ACKLINE (they need IRQ1).
+    pub shows: &'static [Switch],
 }
+
+/// Images of a group that are run again with a switch turned round.
+pub const AGAIN: u64 = 25;
 
 pub const GROUPS: [Group; 4] = [
     Group {
@@ -35,6 +41,7 @@ pub const GROUPS: [Group; 4] = [
             Switch::DmIo,
             Switch::Fill,
         ],
+        shows: &[Switch::Z32, Switch::RorNz, Switch::DivTop, Switch::Nz, Switch::DivNp, Switch::Fill],
     },
     Group {
         name: "held clocks",
@@ -42,6 +49,7 @@ pub const GROUPS: [Group; 4] = [
         kind: Kind { interrupts: false, memory: false },
         held: true,
         more: &[Switch::HoldLd, Switch::HoldMul, Switch::HoldRti],
+        shows: &[Switch::Mul33, Switch::HoldLd, Switch::HoldMul, Switch::HoldReg],
     },
     Group {
         name: "interrupts",
@@ -49,6 +57,7 @@ pub const GROUPS: [Group; 4] = [
         kind: Kind { interrupts: true, memory: false },
         held: true,
         more: &[Switch::AckMask, Switch::PsrIrq, Switch::AckLine, Switch::Irq1],
+        shows: &[Switch::NopIrq, Switch::HoldRti, Switch::AckMask, Switch::Irq1],
     },
     Group {
         name: "local memory",
@@ -56,6 +65,7 @@ pub const GROUPS: [Group; 4] = [
         kind: Kind { interrupts: true, memory: true },
         held: true,
         more: &[Switch::Memory],
+        shows: &[Switch::Adr16, Switch::DmIo, Switch::Memory],
     },
 ];
 
@@ -65,8 +75,15 @@ pub fn switches(group: usize) -> Switches {
     on.fold(Switches::all(Setting::Published), |all, &switch| all.with(switch, Setting::Document01))
 }
 
-/// A random image of a group.
-pub fn image(group: &Group, random: &mut Random) -> Image {
+/// Whether a group must show a switch.
+pub fn must_show(group: usize, switch: Switch) -> bool {
+    GROUPS[..=group].iter().any(|group| group.shows.contains(&switch))
+}
+
+/// The image of a group and a seed.
+pub fn image(at: usize, seed: u64) -> Image {
+    let random = &mut Random::new(seed.wrapping_mul(16).wrapping_add(at as u64));
+    let group = &GROUPS[at];
     let program = program(random, group.kind);
     let data = match random.below(3) {
         _ if !group.kind.memory => 0,

@@ -199,11 +199,10 @@ impl Maker<'_> {
 
     /// Local memory where a shorter address, or a store to a device, would be seen: from 7C0H and from 0FC0H.
     fn shadow(&mut self) {
-        let s = self.random.below(5);
+        let (s, d, offset) = (self.random.below(5), self.target(), self.random.bits(6));
         let high_part = self.random.pick(&[31, 63]);
-        self.words.extend([literal(MOV, s, high_part), literal(ROR, s, 26)]);
-        let (d, offset) = (self.target(), self.random.bits(6));
         let count = self.random.bits(5);
+        self.words.extend([literal(MOV, s, high_part), literal(ROR, s, 26), store(self.random.bits(3), 5, offset)]);
         self.words.extend([load(d, s, offset), literal(ROR, d, count), branch(CS, 1)]);
     }
 

@@ -1,8 +1,8 @@
 // What was compared and with what outcome: passes and failures, totals of a group, which switch is noticed where.
 // Paper: none of it.
-// A switch that neither its program nor a group of images notices is a failure.
-use crate::groups::GROUPS;
+// A switch must be noticed by its programs, and by the groups of images that say so.
 use circuit::{Listing, Row, Switch, TABLE};
+use compare::groups::{must_show, GROUPS};
 use std::fmt;
 
 #[derive(Default)]
@@ -80,21 +80,29 @@ impl Noticed {
         *of += 1;
     }
 
-    /// Prints what each switch on Published alone changes; one failure for each that nothing notices.
-    pub fn judge(&self, score: &mut Score) {
-        println!(
-            "one switch on Published: noticed by its program, and in how many images of each group it was turned in"
-        );
-        for (at, Row { name, listed, .. }) in TABLE.iter().enumerate() {
-            let counts = self.images[at].map(|(found, of)| if of == 0 { "-".into() } else { format!("{found}/{of}") });
+    /// Prints what each switch on Published alone changes; one failure for each that is not noticed where it must be.
+    /// Groups are judged only if enough of their images were run again.
+    pub fn judge(&self, score: &mut Score, groups: bool) {
+        println!("one switch on Published: noticed by its program, and in how many images of each group");
+        for (at, row) in TABLE.iter().enumerate() {
+            let Row { name, listed, .. } = row;
+            let count = |&(found, of): &(u64, u64)| if of == 0 { "-".into() } else { format!("{found}/{of}") };
+            let counts: String = self.images[at].iter().map(|pair| format!(" {:>6}", count(pair))).collect();
             let listed = if *listed { "listed" } else { "" };
             let program = if self.programs[at] { "program" } else { "no program" };
-            println!(
-                "{at:>4} {name:8} {listed:6} {program:10} {}",
-                counts.map(|count| format!("{count:>6}")).join(" ")
-            );
-            let seen = self.programs[at] || self.images[at].iter().any(|&(found, _)| found > 0);
-            score.judge(name, if seen { Ok(()) } else { Err("nothing notices this switch".into()) });
+            println!("{at:>4} {name:8} {listed:6} {program:10}{counts}");
+            score.judge(name, self.seen(row.switch, groups));
+        }
+    }
+
+    fn seen(&self, switch: Switch, groups: bool) -> Result<(), String> {
+        if !self.programs[switch as usize] {
+            return Err("its programs do not show it".into());
+        }
+        let missed = |&at: &usize| must_show(at, switch) && self.images[switch as usize][at].0 == 0;
+        match (0..GROUPS.len()).find(missed) {
+            Some(at) if groups => Err(format!("no image of `{}` shows it", GROUPS[at].name)),
+            _ => Ok(()),
         }
     }
 }
