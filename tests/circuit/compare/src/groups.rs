@@ -75,6 +75,12 @@ pub fn switches(group: usize) -> Switches {
     on.fold(Switches::all(Setting::Published), |all, &switch| all.with(switch, Setting::Document01))
 }
 
+/// Only what the first group's listings show set aside, and nothing else.
+pub fn fewest() -> Switches {
+    let on = GROUPS[0].shows.iter();
+    on.fold(Switches::all(Setting::Published), |all, &switch| all.with(switch, Setting::Document01))
+}
+
 /// Whether a group must show a switch.
 pub fn must_show(group: usize, switch: Switch) -> bool {
     GROUPS[..=group].iter().any(|group| group.shows.contains(&switch))

@@ -70,6 +70,9 @@ fn held_against(options: &Options, at: usize, seed: u64, again: bool, noticed: &
     if let Some(difference) = process::difference(&theirs, &ours.text) {
         return Err(format!("seed {seed}: {difference}"));
     }
+    if at == 0 && list(&image, groups::fewest()).text != theirs {
+        return Err(format!("seed {seed}: differs with the fewest switches set aside"));
+    }
     if again {
         for row in TABLE.iter().filter(|row| switches.document01(row.switch)) {
             let turned = list(&image, switches.with(row.switch, Setting::Published));
@@ -94,6 +97,10 @@ fn group(options: &Options, at: usize, score: &mut Score, noticed: &mut Noticed)
     }
     println!("{name}: {totals}");
     println!("    {weight}");
+    if at == 0 {
+        let names: Vec<&str> = GROUPS[0].shows.iter().map(|&switch| groups::name(switch)).collect();
+        println!("    and the same listings with only {} set aside", names.join(", "));
+    }
     if result.is_ok() && totals.images < options.rounds.max(1) {
         result = Err("the comparison stopped early".into());
     }

@@ -1,6 +1,7 @@
-// Holds the library against the circuit: registers of multiplier and divider step by step, and the state word by word.
+// Holds the library against the circuit: multiplier and divider step by step, the state word by word, the interrupt's rule.
 // Paper: "Clock by clock". Source: Part 1.
-// Called: steps [--images N] [--seed S]; N images in each group, see ../compare. See tests/circuit/run.
+// Called: beside [--images N] [--seed S]; N images in each group, see ../compare. See tests/circuit/run.
+mod rule;
 mod states;
 mod steps;
 
@@ -29,8 +30,8 @@ fn main() {
         println!("0 passed, 1 failed");
         std::process::exit(2);
     });
-    let (of_steps, of_states) = (steps::compare(seed), states::compare(images, seed));
-    let (passed, failed) = (of_steps.0 + of_states.0, of_steps.1 + of_states.1);
+    let parts = [steps::compare(seed), states::compare(images, seed), rule::compare(images, seed)];
+    let (passed, failed) = parts.iter().fold((0, 0), |sum, part| (sum.0 + part.0, sum.1 + part.1));
     println!("{passed} passed, {failed} failed");
     std::process::exit(i32::from(failed > 0));
 }
