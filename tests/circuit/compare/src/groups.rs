@@ -127,3 +127,22 @@ fn runs(group: &Group, random: &mut Random, clocks: u32) -> Vec<Run> {
 pub fn name(switch: Switch) -> &'static str {
     TABLE[switch as usize].name
 }
+
+#[cfg(test)]
+mod tests {
+    use super::*;
+
+    #[test]
+    fn the_last_group_has_every_switch_on_document01() {
+        assert_eq!(switches(GROUPS.len() - 1), Switches::all(Setting::Document01));
+    }
+
+    #[test]
+    fn images_are_good_and_the_same_for_the_same_seed() {
+        for at in 0..GROUPS.len() {
+            let made = image(at, 7);
+            assert_eq!(circuit::read(&made.bytes()), Some(made.clone()));
+            assert!(made == image(at, 7) && made != image(at, 8));
+        }
+    }
+}

@@ -97,7 +97,7 @@ fn group(options: &Options, at: usize, score: &mut Score, noticed: &mut Noticed)
     }
     println!("{name}: {totals}");
     println!("    {weight}");
-    if at == 0 {
+    if at == 0 && result.is_ok() {
         let names: Vec<&str> = GROUPS[0].shows.iter().map(|&switch| groups::name(switch)).collect();
         println!("    and the same listings with only {} set aside", names.join(", "));
     }

@@ -10,11 +10,11 @@ const EDGES: [u32; 13] =
 impl Random {
     pub fn new(seed: u64) -> Random {
         let mut random = Random(seed ^ 0x0C1C_0117_5EED_0001);
-        random.next();
+        random.draw();
         random
     }
 
-    pub fn next(&mut self) -> u64 {
+    pub fn draw(&mut self) -> u64 {
         self.0 = self.0.wrapping_add(0x9E37_79B9_7F4A_7C15);
         let mut z = self.0;
         z = (z ^ z >> 30).wrapping_mul(0xBF58_476D_1CE4_E5B9);
@@ -24,7 +24,7 @@ impl Random {
 
     /// 0 to `limit` - 1.
     pub fn below(&mut self, limit: u32) -> u32 {
-        (self.next() % u64::from(limit)) as u32
+        (self.draw() % u64::from(limit)) as u32
     }
 
     /// `low` to `high`, both met.
@@ -38,7 +38,7 @@ impl Random {
     }
 
     pub fn bits(&mut self, width: u32) -> u32 {
-        (self.next() >> 20) as u32 & ((1u64 << width) - 1) as u32
+        (self.draw() >> 20) as u32 & ((1u64 << width) - 1) as u32
     }
 
     pub fn pick<T: Copy>(&mut self, of: &[T]) -> T {
