@@ -49,13 +49,13 @@ pub const AGREED: &[Agreed] = &[
         expect: Expect { lines: &[Word(1, 0, 1), Word(3, 1, 2)], accesses: &[], state: &[State::Register(0, 0)] },
     },
     Agreed {
-        what: "LD and ST of a device take 2 clocks and 1",
-        program: &[literal(NOT, 5, 63), store(5, 5, 2), literal(MOV, 0, 1), LONG],
-        steps: &[quiet(3)],
+        what: "ST and LD of a device take 1 clock and 2; IO1 on Published shows the read in both",
+        program: &[literal(NOT, 5, 63), store(5, 5, 2), load(0, 5, 3), LONG],
+        steps: &[Step::Clocks(4, 0, 9)],
         expect: Expect {
-            lines: &[Word(1, 0, 1), Word(2, 1, 1), Word(3, 2, 1)],
-            accesses: &[(2, 10, 0xFFFF_FFC0)],
-            state: &[],
+            lines: &[Word(1, 0, 1), Word(2, 1, 1), Word(4, 2, 2)],
+            accesses: &[(2, 10, 0xFFFF_FFC0), (3, 13, 9), (4, 13, 9)],
+            state: &[State::Register(0, 9)],
         },
     },
     Agreed {
