@@ -1,0 +1,216 @@
+// The switches: every place where the published text and document 01 part, held as data.
+// Source: Part 1. Paper: what each row's third text says; "Misreadings of the source" for the last column.
+// A switch is read by the circuit; nothing here says how a difference comes about.
+//
+// Left out of the source's text and filled in after document 01, so that a comparison is no evidence for them:
+// regwr (which operations write a register, and that MUL, DIV and LD do not write while they stall themselves), dst
+// (7 for BL and for the interrupt's save), LDH, RTI's flags, the save's entry in regmux, the wire S of the conditions
+// (N xor V), status bit 3, the place of the interrupt's case in the code of PC and IR, and the widths of imm and off.
+
+/// Which of two behaviours a switch has.
+#[derive(Clone, Copy, PartialEq, Eq, Debug)]
+pub enum Setting {
+    Published,
+    Document01,
+}
+
+#[derive(Clone, Copy, PartialEq, Eq, Debug)]
+pub enum Switch {
+    Z32,
+    RorNz,
+    Mul33,
+    DivTop,
+    NopIrq,
+    Nz,
+    DivNp,
+    Adr16,
+    AckMask,
+    PsrIrq,
+    AckLine,
+    HoldLd,
+    HoldMul,
+    HoldRti,
+    Io1,
+    Irq1,
+    Reset,
+    HoldReg,
+    DmIo,
+    Fill,
+    Memory,
+}
+
+/// A switch, its name, the two behaviours, and whether document 01 lists it under its misreadings.
+pub struct Row {
+    pub switch: Switch,
+    pub name: &'static str,
+    pub published: &'static str,
+    pub document01: &'static str,
+    pub listed: bool,
+}
+
+const fn row(
+    switch: Switch,
+    name: &'static str,
+    listed: bool,
+    published: &'static str,
+    document01: &'static str,
+) -> Row {
+    Row { switch, name, published, document01, listed }
+}
+
+/// In the order of `Switch`.
+pub const TABLE: [Row; 21] = [
+    row(
+        Switch::Z32,
+        "Z32",
+        true,
+        "Z looks at all 33 bits of aluRes, so a wrapped sum of zero and every NOT miss it",
+        "Z looks at the 32-bit result",
+    ),
+    row(Switch::RorNz, "RORNZ", true, "N and Z of ROR come from B xor A", "N and Z of ROR come from its result"),
+    row(
+        Switch::Mul33,
+        "MUL33",
+        true,
+        "a stall in clock 33 clears S, and MUL or DIV starts over",
+        "clock 33 is held like any other",
+    ),
+    row(Switch::DivTop, "DIVTOP", true, "the divider drops bit 31 of the dividend's absolute value", "it is kept"),
+    row(
+        Switch::NopIrq,
+        "NOPIRQ",
+        true,
+        "no line is looked at while IR = 3BC00H, the program's own too",
+        "only a NOP that the circuit put in is passed over",
+    ),
+    row(
+        Switch::Nz,
+        "NZ",
+        false,
+        "every write to a register sets N and Z: LD, links and the interrupt's save too",
+        "only operations 0-10 do",
+    ),
+    row(
+        Switch::DivNp,
+        "DIVNP",
+        false,
+        "the divider goes on with a divisor at or below zero and gives what comes out",
+        "quotient 0, H the dividend, step registers zero",
+    ),
+    row(
+        Switch::Adr16,
+        "ADR16",
+        false,
+        "addresses have 12 bits, devices are 0FC0H-0FFFH",
+        "addresses have 16 bits, devices are FFC0H-FFFFH",
+    ),
+    row(
+        Switch::AckMask,
+        "ACKMASK",
+        false,
+        "the instruction put off acts in the acknowledge clock: stalls, device and memory accesses, mode, flags",
+        "nothing of it happens",
+    ),
+    row(
+        Switch::PsrIrq,
+        "PSRIRQ",
+        false,
+        "LDPSR is lost if a line is sampled in its clock",
+        "LDPSR is carried out, and no line is sampled in its clock",
+    ),
+    row(
+        Switch::AckLine,
+        "ACKLINE",
+        false,
+        "the vector follows the lines of the acknowledge clock; without a line there is no jump",
+        "the vector follows the line that was sampled",
+    ),
+    row(Switch::HoldLd, "HOLDLD", false, "stall1 runs on in held clocks", "stall1 is held"),
+    row(Switch::HoldMul, "HOLDMUL", false, "multiplier and divider step on in held clocks", "their steps are held"),
+    row(
+        Switch::HoldRti,
+        "HOLDRTI",
+        false,
+        "RTI and LDPSR change mode and enables in a held clock already",
+        "only in the unheld clock",
+    ),
+    row(
+        Switch::Io1,
+        "IO1",
+        false,
+        "iord in both clocks of LD; iord and iowr in held clocks too",
+        "only in the last clock, which is unheld",
+    ),
+    row(
+        Switch::Irq1,
+        "IRQ1",
+        false,
+        "lines are sampled in an instruction's last clock (a taken branch's first); acknowledge and a NOP follow",
+        "lines are judged in the clock in which an instruction would begin; that clock is the whole interrupt",
+    ),
+    row(
+        Switch::Reset,
+        "RESET",
+        false,
+        "registers, flags, H, step counters and step registers survive a reset",
+        "all are zero, and the cache is empty",
+    ),
+    row(
+        Switch::HoldReg,
+        "HOLDREG",
+        false,
+        "regwr (elided) without the outer stall: results are written in held clocks too",
+        "nothing is written in a held clock",
+    ),
+    row(Switch::DmIo, "DMIO", false, "a store to a device also writes the local memory", "the device alone"),
+    row(
+        Switch::Fill,
+        "FILL",
+        false,
+        "after a reset one clock goes to a NOP while the word at 0 is fetched",
+        "the first clock begins the word at 0",
+    ),
+    row(
+        Switch::Memory,
+        "MEMORY",
+        false,
+        "local memory is a block RAM: LD 2 clocks, ST 1, status bit 3 without effect",
+        "the clock table's LD 6 and ST 5, or the cache",
+    ),
+];
+
+/// One setting for each switch.
+#[derive(Clone, Copy, PartialEq, Eq, Debug)]
+pub struct Switches([Setting; TABLE.len()]);
+
+impl Switches {
+    pub const fn all(setting: Setting) -> Switches {
+        Switches([setting; TABLE.len()])
+    }
+
+    pub fn with(mut self, switch: Switch, setting: Setting) -> Switches {
+        self.0[switch as usize] = setting;
+        self
+    }
+
+    pub fn published(&self, switch: Switch) -> bool {
+        self.0[switch as usize] == Setting::Published
+    }
+
+    pub fn document01(&self, switch: Switch) -> bool {
+        !self.published(switch)
+    }
+}
+
+#[cfg(test)]
+mod tests {
+    use super::*;
+
+    #[test]
+    fn rows_stand_in_the_order_of_the_switches() {
+        for (at, row) in TABLE.iter().enumerate() {
+            assert_eq!(row.switch as usize, at, "{}", row.name);
+        }
+        assert_eq!(TABLE.iter().filter(|row| row.listed).count(), 5);
+    }
+}

@@ -1,0 +1,150 @@
+// Programs for the switches about devices, local memory and reset: ADR16, IO1, RESET, DMIO, FILL and MEMORY.
+// Source: "The Local Data Memory", "Input and Output", "The control unit". Paper: LD and ST, "Reset makes everything zero".
+// IO1 changes no listing: the device accesses show it. RESET shows in a listing after a second reset.
+use super::{listing, quiet, Case, Expect, Line::Word, State, Step, LONG};
+use circuit::words::*;
+use circuit::Switch;
+
+pub const CASES: &[Case] = &[
+    Case {
+        switch: Switch::Adr16,
+        what: "LD from 0FC0H: device 0, or memory",
+        program: &[
+            literal(MOV, 5, 63),
+            literal(ROR, 5, 26),
+            load(0, 5, 0),
+            literal(ADD, 0, 0),
+            branch(EQ, 1),
+            LONG,
+            LONG,
+        ],
+        base: &[],
+        steps: &[Step::Clocks(11, 0, 5)],
+        published: Expect {
+            lines: &[Word(1, 0, 1), Word(2, 1, 1), Word(4, 2, 2), Word(5, 3, 1), Word(6, 4, 1)],
+            accesses: &[(4, 1, 5)],
+            state: &[State::Register(0, 5)],
+        },
+        document01: Expect {
+            lines: &[Word(1, 0, 1), Word(2, 1, 1), Word(8, 2, 6), Word(9, 3, 1), Word(11, 4, 2)],
+            accesses: &[],
+            state: &[State::Register(0, 0)],
+        },
+    },
+    Case {
+        switch: Switch::Io1,
+        what: "LD from device 3 with another input word in each clock, ST to device 4 held once",
+        program: &[literal(NOT, 5, 63), load(0, 5, 3), store(0, 5, 4), LONG],
+        base: &[],
+        steps: &[
+            quiet(1),
+            Step::Clocks(1, 0, 0x11),
+            Step::Clocks(1, 0, 0x22),
+            Step::Clocks(1, 4, 0x33),
+            Step::Clocks(2, 0, 0x44),
+        ],
+        published: Expect {
+            lines: &[Word(1, 0, 1), Word(3, 1, 2), Word(5, 2, 1)],
+            accesses: &[(2, 13, 0x11), (3, 13, 0x22), (4, 18, 0x22), (5, 18, 0x22)],
+            state: &[State::Register(0, 0x22)],
+        },
+        document01: Expect {
+            lines: &[Word(1, 0, 1), Word(3, 1, 2), Word(5, 2, 1)],
+            accesses: &[(3, 13, 0x22), (5, 18, 0x22)],
+            state: &[State::Register(0, 0x22)],
+        },
+    },
+    Case {
+        switch: Switch::Reset,
+        what: "a register survives a reset",
+        program: &[literal(ADD, 0, 1), LONG],
+        base: &[],
+        steps: &[quiet(1), Step::Reset, quiet(1)],
+        published: Expect { lines: &[Word(1, 0, 1)], accesses: &[], state: &[State::Register(0, 2)] },
+        document01: Expect { lines: &[Word(1, 0, 1)], accesses: &[], state: &[State::Register(0, 1)] },
+    },
+    Case {
+        switch: Switch::Reset,
+        what: "a reset after ten steps of MUL, the eleventh in its own clock: the next MUL begins at step 11",
+        program: &[literal(ADD, 0, 1), literal(MUL, 0, 3), literal(MOV, 1, 1), LONG],
+        base: &[],
+        steps: &[quiet(11), Step::Reset, quiet(35)],
+        published: listing(&[Word(1, 0, 1), Word(23, 1, 22), Word(24, 2, 1)]),
+        document01: listing(&[Word(1, 0, 1), Word(34, 1, 33), Word(35, 2, 1)]),
+    },
+    Case {
+        switch: Switch::DmIo,
+        what: "ST to device 0 changes word 7C0H",
+        program: &[
+            literal(NOT, 5, 63),
+            literal(MOV, 0, 1),
+            store(0, 5, 0),
+            literal(MOV, 4, 31),
+            literal(ROR, 4, 26),
+            load(1, 4, 0),
+            literal(ADD, 1, 0),
+            branch(EQ, 1),
+            literal(MOV, 2, 1),
+            literal(MOV, 2, 2),
+        ],
+        base: &[],
+        steps: &[quiet(15)],
+        published: Expect {
+            lines: &[
+                Word(1, 0, 1),
+                Word(2, 1, 1),
+                Word(3, 2, 1),
+                Word(4, 3, 1),
+                Word(5, 4, 1),
+                Word(11, 5, 6),
+                Word(12, 6, 1),
+                Word(13, 7, 1),
+                Word(14, 8, 1),
+                Word(15, 9, 1),
+            ],
+            accesses: &[(3, 2, 1)],
+            state: &[State::Register(1, 1)],
+        },
+        document01: Expect {
+            lines: &[
+                Word(1, 0, 1),
+                Word(2, 1, 1),
+                Word(3, 2, 1),
+                Word(4, 3, 1),
+                Word(5, 4, 1),
+                Word(11, 5, 6),
+                Word(12, 6, 1),
+                Word(14, 7, 2),
+                Word(15, 9, 1),
+            ],
+            accesses: &[(3, 2, 1)],
+            state: &[State::Register(1, 0)],
+        },
+    },
+    Case {
+        switch: Switch::Fill,
+        what: "the first word ends in clock 2, or 1",
+        program: &[literal(MOV, 0, 5), LONG],
+        base: &[],
+        steps: &[quiet(2)],
+        published: listing(&[Word(2, 0, 1)]),
+        document01: listing(&[Word(1, 0, 1)]),
+    },
+    Case {
+        switch: Switch::Memory,
+        what: "ST and LD of local memory, cache off",
+        program: &[literal(MOV, 0, 3), store(0, 7, 1), load(2, 7, 1), LONG],
+        base: &[],
+        steps: &[quiet(12)],
+        published: Expect {
+            lines: &[Word(1, 0, 1), Word(2, 1, 1), Word(4, 2, 2)],
+            accesses: &[],
+            state: &[State::Register(2, 3)],
+        },
+        document01: Expect {
+            lines: &[Word(1, 0, 1), Word(6, 1, 5), Word(12, 2, 6)],
+            accesses: &[],
+            state: &[State::Register(2, 3)],
+        },
+    },
+];
