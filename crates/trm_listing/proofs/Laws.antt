@@ -5,3 +5,5 @@ pub mod Flight
 pub mod Text
 pub mod Onward
 pub mod Gone
+pub mod Held
+pub mod Along

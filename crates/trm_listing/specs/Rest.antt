@@ -3,11 +3,11 @@
 -- Assumes nothing.
 --   textFrom p x took is   the lines from x on, and the last line        Able   what every clock of a listing asks
 --   Onward                 clocks are gone, and their lines are in the buffer
-use Prim.Native.Nat.{ℕ, _+_, _-_, _≤_}
+use Prim.Native.Nat.{ℕ, _+_, _*_, _-_, _≤_}
 use mathlib.Core.Path.{_≡_}
 use mathlib.Core.Bool.{true, cond}
 use mathlib.Core.List.{List, [], _∷_, _++_}
-use lib.ListN.{length, take, replicate}
+use lib.ListN.{length, take, drop, replicate}
 use lib.Dec.{eqb}
 use Rattle.trm_reference.specs.Geometry.{paperGeometry}
 use Rattle.trm_reference.specs.Trace.{Pins}
@@ -21,8 +21,12 @@ use Rattle.trm_core.specs.Refusals.{programOk, storeOk}
 use Rattle.trm_clock.specs.declared.inner.outcome.Clocked.{Clocked}
 use Rattle.trm_text.specs.Lines.{word, irq, lineBytes, linesBytes}
 use Rattle.trm_text.specs.Wrote.{Wrote}
+use Rattle.trm_image.specs.Records.{begins}
+use Rattle.trm_image.specs.Meaning.{runsIn}
+use Rattle.trm_image.proofs.Laws.Runs.{Runs}
 use Rattle.trm_listing.specs.declared.inner.listed.Listed.{Listed}
-use Rattle.trm_listing.specs.Listing.{lineOf, tookAfter, endLine}
+use Rattle.trm_listing.specs.declared.inner.runs.Place.{Place}
+use Rattle.trm_listing.specs.Listing.{lineOf, tookAfter, pinsOfRuns, endLine}
 
 unfoldable pub textFrom : List ℕ → Lent → ℕ → List Pins → List ℕ
 textFrom p x took [] = endLine x
@@ -50,6 +54,7 @@ pub record Onward (p : List ℕ) (i : Pins) (l : Listed) (x : Lent) (b : List �
   pub long : length b′ ≡ length b
   pub fits : l′ .len ≤ length b′
   pub fewer : l′ .left ≤ l .left
+  pub pace : x′ .machine .scalars .counts .clocks + l′ .left ≡ x .machine .scalars .counts .clocks + l .left
   pub stored : length (x′ .store) ≡ length (x .store)
 
 -- one clock that takes no interrupt, as the code makes it: r is what the clock left, w the word at PC
@@ -70,3 +75,48 @@ pub record Interrupted (l : Listed) (c : Scalars) (to : ℕ) (b : List ℕ) (h :
   pub took : h .took ≡ 0
   pub text : Wrote b (l .len) (lineBytes (record { clock = c .counts .clocks; at = l .scalars .pc; shown = irq (to - 2); took = 1 })) b′ (h .len)
   pub fits : h .len ≤ length b′
+
+-- the scalars after n held clocks
+abbrev pub heldBy : Scalars → ℕ → Scalars
+heldBy c n =
+    record {
+      pc = c .pc;
+      h = c .h;
+      n = c .n;
+      z = c .z;
+      c = c .c;
+      v = c .v;
+      status = c .status;
+      running = c .running;
+      size = c .size;
+      counts = record {
+        clocks = c .counts .clocks + n;
+        held = c .counts .held + n;
+        refills = c .counts .refills;
+        writebacks = c .counts .writebacks;
+      };
+    }
+
+-- the pins of the run in hand, and those of the runs that begin at these places or later
+abbrev pub pinsAt : Place → Pins
+pinsAt q = record { line = q .line; input = q .input }
+
+unfoldable pub pinsLeft : List ℕ → Place → List Pins
+pinsLeft s q = replicate (q .listed .left) (pinsAt q) ++ pinsOfRuns (runsIn s (begins 0 (q .at) (drop (q .at) s)))
+
+-- a listing of the accepted image s stands here: only runs are left, and the counts have room for all their clocks, a run being
+-- fifteen bytes and at most 65,536 clocks
+pub record Stands (s p : List ℕ) (q : Place) (x : Lent) (b : List ℕ) : Type 0 where
+  pub able : Able p x (q .listed .took) (q .listed .left) (pinsAt q)
+  pub runs : Runs 2048 s (q .at)
+  pub small : length s ≤ 65536
+  pub room : x .machine .scalars .counts .clocks + q .listed .left + (length s - q .at) * 4370 ≤ 4294967295
+  pub fits : q .listed .len ≤ length b
+
+-- the listing stood at q and stands at q′: what is written and what is to be written is the same
+pub record Along (s p : List ℕ) (q : Place) (x : Lent) (b : List ℕ) (q′ : Place) (x′ : Lent) (b′ : List ℕ) : Type 0 where
+  pub stands : Stands s p q′ x′ b′
+  pub text : take (q′ .listed .len) b′ ++ textFrom p x′ (q′ .listed .took) (pinsLeft s q′)
+      ≡ take (q .listed .len) b ++ textFrom p x (q .listed .took) (pinsLeft s q)
+  pub long : length b′ ≡ length b
+  pub stored : length (x′ .store) ≡ length (x .store)

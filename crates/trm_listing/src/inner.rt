@@ -1,5 +1,6 @@
 // The clocks of one run of an image, with their lines put into a buffer.
 // Paper: "Kind 3 ..: count .., line byte, input word"; the fields of a line.
-// `listed`: where a listing stands; `clocks`: clock after clock; `words`: the image's words in arrays.
+// `listed`: where a listing stands; `clocks`: clock after clock; `runs`: run after run.
 pub mod clocks;
 pub mod listed;
+pub mod runs;

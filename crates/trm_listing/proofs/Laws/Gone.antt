@@ -192,6 +192,7 @@ module _ (p : List ℕ) (i : Pins) where
             long = refl;
             fits = fits;
             fewer = omega arith;
+            pace = omega (arith, r .count, all);
             stored = r .long;
           }
 

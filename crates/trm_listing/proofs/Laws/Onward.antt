@@ -56,7 +56,7 @@ module _ (p : List ℕ) (i : Pins) where
   pub passed-able : {x : Lent} {took left : ℕ} → Able p x took left i → Passed paperGeometry p (x .machine) (x .store)
   passed-able a = record { program = a .program; store = a .store; rule = a .rule }
 
-  able-clock : (x : Lent) (took left took′ : ℕ) → Able p x took left i → 0 < left → took′ ≤ took + 1
+  pub able-clock : (x : Lent) (took left took′ : ℕ) → Able p x took left i → 0 < left → took′ ≤ took + 1
       → Able p (clockOf paperGeometry p x i .state) took′ (left - 1) i
   able-clock x took left took′ a some le =
       let k : Kept paperGeometry p (clockOf paperGeometry p x i .state) =
@@ -74,7 +74,7 @@ module _ (p : List ℕ) (i : Pins) where
       }
 
   pub onward-none : (l : Listed) (x : Lent) (b : List ℕ) → Able p x (l .took) (l .left) i → l .len ≤ length b → Onward p i l x b l x b
-  onward-none l x b a h = record { able = a; text = λ _. refl; long = refl; fits = h; fewer = omega arith; stored = refl }
+  onward-none l x b a h = record { able = a; text = λ _. refl; long = refl; fits = h; fewer = omega arith; pace = refl; stored = refl }
 
   pub onward-then : {l l′ l″ : Listed} {x x′ x″ : Lent} {b b′ b″ : List ℕ} → Onward p i l x b l′ x′ b′ → Onward p i l′ x′ b′ l″ x″ b″
       → Onward p i l x b l″ x″ b″
@@ -84,6 +84,7 @@ module _ (p : List ℕ) (i : Pins) where
     long = g .long ∙ f .long;
     fits = g .fits;
     fewer = omega (arith, f .fewer, g .fewer);
+    pace = g .pace ∙ f .pace;
     stored = g .stored ∙ f .stored;
   }
 
@@ -107,6 +108,7 @@ module _ (p : List ℕ) (i : Pins) where
       long = long;
       fits = fits;
       fewer = omega (arith, left);
+      pace = ap (λ z. z .machine .scalars .counts .clocks + h .left) e ∙ omega (arith, left, some, clock-adds p x i .adds);
       stored = ap (λ z. length (z .store)) e ∙ stored-long x (clockOf paperGeometry p x i .state) (a .store)
           (able-clock x (l .took) (l .left) t a some le .store) (clock-adds p x i .size);
     }

@@ -1,0 +1,24 @@
+-- The proof of trm_listing::inner::runs::run_here.
+use mathlib.Core.Path.{refl}
+use Rattle.trm_listing.proofs.Laws.Along.{along-clocks}
+use borrow.Author.Needs.{needs}
+use Rattle.trm_listing.proofs.inner.runs.run_here.Statement.{statement}
+use Rattle.trm_listing.proofs.inner.runs.run_here.Tie as tie
+use Rattle.trm_listing.proofs.inner.runs.run_here.Reads as reads
+use Rattle.trm_listing.proofs.inner.runs.run_here.Lts as lts
+use Rattle.trm_listing.proofs.inner.runs.run_clocks.Reads as run-clocks-reads
+
+run-clocks-requires : tie.Need-run-clocks-requires
+run-clocks-requires c κs = (c .before .before .before .before .before .before .before .before .before .before .before .before .pre .0 .able, c .before .before .before .before .before .before .before .before .before .before .before .before .pre .0 .fits, c .before .before .before .before .before .before .before .before .before .before .before .before .pre .1)
+
+same-length : tie.Need-same-length
+same-length c = search needs
+
+same-length-2 : tie.Need-same-length-2
+same-length-2 c = search needs
+
+returns : tie.Need-returns
+returns c = (along-clocks _ _ _ _ _ _ _ _ (c .before .before .before .before .before .before .before .before .before .before .before .before .before .before .before .before .before .pre .0) (c .before .before .before .before .run-clocks .ensures .0), c .before .before .before .before .run-clocks .ensures .1, refl)
+
+pub run-here-spec : {M : Type 1} → statement M
+run-here-spec = tie.close (tie.spec run-clocks-requires same-length same-length-2 returns)

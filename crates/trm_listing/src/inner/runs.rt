@@ -1,0 +1,230 @@
+// The runs of an image one after another: the clocks of the run in hand, then the next record.
+// Paper: "Kind 3, any number: 9 bytes, count 1-65,536 (4), line byte, input word (4)"; "A clock with stall set is held".
+// All clocks of a run have the same line byte, so a run is held as a whole or not at all.
+ghost use mathlib.Core.Path.{_≡_};
+ghost use mathlib.Core.Logic.{_≢_};
+ghost use Prim.Native.Nat.{_+_, _≤_, _<_};
+ghost use lib.ListN.{length};
+ghost use Rattle.trm_word.specs.Charge.{charges};
+ghost use Rattle.trm_cache.specs.Cache.{cache};
+ghost use Rattle.trm_image.specs.Refused.{countAt, lineAt, inputAt};
+ghost use Rattle.trm_listing.specs.Rest.{heldBy, lentOf, Able, Onward, Stands, Along};
+use crate::inner::clocks;
+use crate::inner::listed::Listed;
+use trm_core::record::Scalars;
+use trm_image::inner::bytes;
+use trm_steps::inner::interrupt;
+
+// Where a listing stands in an image: in a run, and where the record after it begins.
+pub struct Place {
+    pub listed: Listed,
+    pub at: usize,
+    pub line: u8,
+    pub input: u32,
+}
+
+// So many held clocks.
+fn hold_all(c: Scalars, n: usize) -> Scalars
+    requires { ⌜ (c .counts .clocks + n ≤ 4294967295) × (c .counts .held + n ≤ 8589934591) ⌝ }
+    ensures { λ r. ⌜ r ≡ heldBy c n ⌝ }
+{
+    let mut next = c;
+    let clocks = next.counts.clocks + n as u64;
+    next.counts.clocks = clocks;
+    let held = next.counts.held + n as u64;
+    next.counts.held = held;
+    next
+}
+
+// The clocks of the run in hand, until they are over or the buffer has no room for a line.
+fn run_clocks(
+    l: Listed,
+    program: &[u32],
+    regs: &mut [u32; 16],
+    full: &mut [u8; 16],
+    dirty: &mut [u8; 16],
+    block: &mut [u16; 16],
+    words: &mut [u32; 128],
+    store: &mut [u32],
+    line: u8,
+    input: u32,
+    base: &[u64; 16],
+    buf: &mut [u8],
+) -> Listed
+    requires { ⌜ Able (now program) (lentOf l (now regs) (cache (now full) (now dirty) (now block) (now words)) (now store))
+        (l .took) (l .left) (record { line = line; input = input })
+        × (l .len ≤ length (now buf)) × (now base ≡ charges) ⌝ }
+    ensures { λ r. ⌜ Onward (now (program .entry)) (record { line = line; input = input })
+        l (lentOf l (now (regs .entry)) (cache (now (full .entry)) (now (dirty .entry)) (now (block .entry)) (now (words .entry)))
+        (now (store .entry))) (now (buf .entry))
+        r (lentOf r (now (regs .exit)) (cache (now (full .exit)) (now (dirty .exit)) (now (block .exit)) (now (words .exit)))
+        (now (store .exit))) (now (buf .exit))
+        × (r .left ≢ 0 → length (now (buf .entry)) < r .len + 32) ⌝ }
+{
+    if interrupt::is_stalled(line) {
+        let c = l.scalars;
+        let after = hold_all(c, l.left);
+        return Listed {
+            scalars: after,
+            left: 0,
+            took: l.took,
+            len: l.len,
+        };
+    }
+    clocks::list_clocks(
+        l,
+        program,
+        regs,
+        full,
+        dirty,
+        block,
+        words,
+        store,
+        line,
+        input,
+        base,
+        buf,
+    )
+}
+
+// The next record, a run.
+fn next_run(q: Place, image: &[u8]) -> Place
+    requires { ⌜ q .at ≤ 65536 ⌝ }
+    ensures { λ r. ⌜ r ≡ record {
+      listed = record {
+        scalars = q .listed .scalars;
+        left = countAt (now (image .entry)) (q .at);
+        took = q .listed .took;
+        len = q .listed .len;
+      };
+      at = q .at + 15;
+      line = lineAt (now (image .entry)) (q .at);
+      input = inputAt (now (image .entry)) (q .at);
+    } ⌝ }
+{
+    let at = q.at;
+    let count = bytes::word_at(image, at + 6);
+    let line = bytes::byte_at(image, at + 10);
+    let input = bytes::word_at(image, at + 11);
+    let l = q.listed;
+    let c = l.scalars;
+    let listed = Listed {
+        scalars: c,
+        left: count as usize,
+        took: l.took,
+        len: l.len,
+    };
+    Place {
+        listed: listed,
+        at: at + 15,
+        line: line,
+        input: input,
+    }
+}
+
+// The clocks of the run in hand, in its place.
+fn run_here(
+    q: Place,
+    image: &[u8],
+    program: &[u32],
+    regs: &mut [u32; 16],
+    full: &mut [u8; 16],
+    dirty: &mut [u8; 16],
+    block: &mut [u16; 16],
+    words: &mut [u32; 128],
+    store: &mut [u32],
+    base: &[u64; 16],
+    buf: &mut [u8],
+) -> Place
+    requires { ⌜ Stands (now image) (now program) q
+        (lentOf (q .listed) (now regs) (cache (now full) (now dirty) (now block) (now words)) (now store)) (now buf)
+        × (now base ≡ charges) ⌝ }
+    ensures { λ r. ⌜ Along (now (image .entry)) (now (program .entry)) q
+        (lentOf (q .listed) (now (regs .entry)) (cache (now (full .entry)) (now (dirty .entry)) (now (block .entry)) (now (words .entry)))
+        (now (store .entry))) (now (buf .entry)) r
+        (lentOf (r .listed) (now (regs .exit)) (cache (now (full .exit)) (now (dirty .exit)) (now (block .exit)) (now (words .exit)))
+        (now (store .exit))) (now (buf .exit))
+        × (r .listed .left ≢ 0 → length (now (buf .entry)) < r .listed .len + 32) × (r .at ≡ q .at) ⌝ }
+{
+    let l = q.listed;
+    let listed = run_clocks(
+        l,
+        program,
+        regs,
+        full,
+        dirty,
+        block,
+        words,
+        store,
+        q.line,
+        q.input,
+        base,
+        buf,
+    );
+    Place {
+        listed: listed,
+        at: q.at,
+        line: q.line,
+        input: q.input,
+    }
+}
+
+// The run in hand and all after it, until they are over or the buffer has no room for a line.
+pub fn list_runs(
+    q: Place,
+    image: &[u8],
+    program: &[u32],
+    regs: &mut [u32; 16],
+    full: &mut [u8; 16],
+    dirty: &mut [u8; 16],
+    block: &mut [u16; 16],
+    words: &mut [u32; 128],
+    store: &mut [u32],
+    base: &[u64; 16],
+    buf: &mut [u8],
+) -> Place
+    requires { ⌜ Stands (now image) (now program) q
+        (lentOf (q .listed) (now regs) (cache (now full) (now dirty) (now block) (now words)) (now store)) (now buf)
+        × (now base ≡ charges) ⌝ }
+    ensures { λ r. ⌜ Along (now (image .entry)) (now (program .entry)) q
+        (lentOf (q .listed) (now (regs .entry)) (cache (now (full .entry)) (now (dirty .entry)) (now (block .entry)) (now (words .entry)))
+        (now (store .entry))) (now (buf .entry)) r
+        (lentOf (r .listed) (now (regs .exit)) (cache (now (full .exit)) (now (dirty .exit)) (now (block .exit)) (now (words .exit)))
+        (now (store .exit))) (now (buf .exit))
+        × (r .listed .left ≢ 0 → length (now (buf .entry)) < r .listed .len + 32)
+        × (r .listed .left ≡ 0 → length (now (image .entry)) ≤ r .at) ⌝ }
+{
+    let mut p = run_here(
+        q,
+        image,
+        program,
+        regs,
+        full,
+        dirty,
+        block,
+        words,
+        store,
+        base,
+        buf,
+    );
+    while p.at < image.len() {
+        if p.listed.left != 0 {
+            return p;
+        }
+        let next = next_run(p, image);
+        p = run_here(
+            next,
+            image,
+            program,
+            regs,
+            full,
+            dirty,
+            block,
+            words,
+            store,
+            base,
+            buf,
+        );
+    }
+    p
+}
