@@ -1,7 +1,8 @@
 -- The laws, one theme to a file.
 -- `Words`: words one after another; `Parts`: a payload as a part of the image; `Clean`: a record without a fault; `Walk`: record after
--- record; `Runs`: runs to the end; `Accepted`: an accepted image; `First`: the first fault; `Bytes`, `Written`, `Described`: an accepted
--- image written out; `Readback`, `Unfaulted`, `Complete`: what is written out is accepted and read; `Cases`: the table of images.
+-- record; `Runs`: runs to the end; `Accepted`: an accepted image; `Load`: words put into an array; `First`: the first fault; `Bytes`,
+-- `Written`, `Described`: an accepted image written out; `Readback`, `Unfaulted`, `Complete`: what is written out is accepted and read;
+-- `Cases`: the table of images.
 -- Assumes nothing.
 pub mod Words
 pub mod Parts
@@ -9,6 +10,7 @@ pub mod Clean
 pub mod Walk
 pub mod Runs
 pub mod Accepted
+pub mod Load
 pub mod First
 pub mod Bytes
 pub mod Written
