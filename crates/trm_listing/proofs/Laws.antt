@@ -7,3 +7,6 @@ pub mod Onward
 pub mod Gone
 pub mod Held
 pub mod Along
+pub mod Whole
+pub mod Load
+pub mod Piece

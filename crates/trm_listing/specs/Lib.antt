@@ -3,3 +3,5 @@
 -- Assumes nothing.
 pub mod Listing
 pub mod Rest
+pub mod Loaded
+pub mod Pieces

@@ -2,3 +2,4 @@
 // Paper: "Images and the listing program".
 // `listing`: the calls; `inner`: the clocks of one run and their lines.
 pub mod inner;
+pub mod listing;

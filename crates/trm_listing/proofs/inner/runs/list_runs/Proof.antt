@@ -29,37 +29,99 @@ run-here-requires : tie.Need-run-here-requires Inv-loop μ-loop
 run-here-requires c κs = c .before .before .before .before .before .before .before .before .before .before .before .pre
 
 loop-holds : tie.Need-loop-holds Inv-loop μ-loop
-loop-holds c = (along-none _ _ _ _ _ (c .before .before .before .before .run-here .ensures .0 .stands), λ z. omega (arith, c .before .before .before .before .run-here .ensures .1 z, c .before .before .before .before .run-here .ensures .0 .long))
+loop-holds c = (
+  along-none _ _ _ _ _ (c .before .before .before .before .run-here .ensures .0 .stands),
+  λ z. omega (
+    arith,
+    c .before .before
+        .before .before .run-here .ensures .1 z,
+    c .before .before .before .before .run-here .ensures .0 .long,
+  ),
+)
 
 same-length : tie.Need-same-length Inv-loop μ-loop
-same-length c = c .before .before .before .before .loop .inv .0 .stored ∙ c .before .before .before .before .before .before .before .before .before .run-here .ensures .0 .stored
+same-length c =
+    c .before .before .before .before .loop .inv .0 .stored ∙ c .before .before .before .before .before .before .before .before
+    .before .run-here .ensures .0 .stored
 
 same-length-2 : tie.Need-same-length-2 Inv-loop μ-loop
-same-length-2 c = c .before .before .before .before .loop .inv .0 .long ∙ c .before .before .before .before .before .before .before .before .before .run-here .ensures .0 .long
+same-length-2 c =
+    c .before .before .before .before .loop .inv .0 .long ∙ c .before .before .before .before .before .before .before .before
+    .before .run-here .ensures .0 .long
 
 returns : tie.Need-returns Inv-loop μ-loop
-returns c = (along-then _ _ (c .before .before .before .before .before .before .before .before .before .run-here .ensures .0) (c .before .before .before .before .loop .inv .0), λ z. omega (arith, c .before .before .before .before .loop .inv .1 z, c .before .before .before .before .before .before .before .before .before .run-here .ensures .0 .long), λ z. absurd (c .if2 .taken z))
+returns c = (
+  along-then _ _ (c .before .before .before .before .before .before .before .before .before .run-here .ensures .0) (c .before
+      .before .before .before .loop .inv .0),
+  λ z. omega (
+    arith,
+    c .before .before .before .before .loop .inv .1 z,
+    c .before .before
+        .before .before .before .before .before .before .before .run-here .ensures .0 .long,
+  ),
+  λ z. absurd (c .if2 .taken z),
+)
 
 next-run-requires : tie.Need-next-run-requires Inv-loop μ-loop
-next-run-requires c κs = omega (arith, c .before .before .if1 .taken, c .before .before .before .before .loop .inv .0 .stands .small)
+next-run-requires c κs =
+    omega (arith, c .before .before .if1 .taken, c .before .before .before .before .loop .inv .0 .stands .small)
 
 run-here-requires-2 : tie.Need-run-here-requires-2 Inv-loop μ-loop
-run-here-requires-2 c κs = (along-next _ _ _ _ _ _ _ _ (c .before .before .before .before .before .before .before .next-run .ensures) (c .before .before .before .before .before .before .before .before .before .before .before .before .loop .inv .0 .stands) (c .before .before .before .before .before .before .before .before .if2 .left) (c .before .before .before .before .before .before .before .before .before .before .if1 .taken) .stands, c .before .before .before .before .before .before .before .before .before .before .before .before .before .before .before .before .before .before .before .before .before .before .before .before .before .before .before .before .before .pre .1)
+run-here-requires-2 c κs =
+    let c10 = c .before .before .before .before .before .before .before .before .before .before in
+    let c20 = c10 .before .before .before .before .before .before .before .before .before .before in (
+      along-next _ _ _ _ _ _ _ _ (c .before .before .before .before .before .before .before .next-run .ensures) (c10 .before .before
+          .loop .inv .0 .stands) (c .before .before .before .before .before .before .before .before .if2 .left) (c10 .if1 .taken) .stands,
+      c20 .before .before .before .before .before .before .before .before .before .pre .1,
+    )
 
 loop-less : tie.Need-loop-less Inv-loop μ-loop
-loop-less c = omega (arith, c .before .before .before .before .run-here2 .ensures .2, ap (λ (y : Place). y .at) (c .before .before .before .before .before .before .before .before .before .before .before .before .next-run .ensures), c .before .before .before .before .before .before .before .before .before .before .before .before .before .before .before .if1 .taken)
+loop-less c =
+    let c10 = c .before .before .before .before .before .before .before .before .before .before in
+    omega (
+      arith,
+      c .before .before .before .before .run-here2 .ensures .2,
+      ap (λ (y : Place). y .at) (c10 .before .before .next-run
+          .ensures),
+      c10 .before .before .before .before .before .if1 .taken,
+    )
 
 loop-again : tie.Need-loop-again Inv-loop μ-loop
-loop-again c = (along-then _ _ (c .before .before .before .before .before .before .before .before .before .before .before .before .before .before .before .before .before .loop .inv .0) (along-then _ _ (along-next _ _ _ _ _ _ _ _ (c .before .before .before .before .before .before .before .before .before .before .before .before .next-run .ensures) (c .before .before .before .before .before .before .before .before .before .before .before .before .before .before .before .before .before .loop .inv .0 .stands) (c .before .before .before .before .before .before .before .before .before .before .before .before .before .if2 .left) (c .before .before .before .before .before .before .before .before .before .before .before .before .before .before .before .if1 .taken)) (c .before .before .before .before .run-here2 .ensures .0)), λ z. omega (arith, c .before .before .before .before .run-here2 .ensures .1 z, c .before .before .before .before .before .before .before .before .before .before .before .before .before .before .before .before .before .loop .inv .0 .long))
+loop-again c =
+    let c10 = c .before .before .before .before .before .before .before .before .before .before in (
+      along-then _ _ (c10 .before .before .before .before .before .before .before .loop .inv .0) (along-then _ _ (along-next _ _ _ _
+          _ _ _ _ (c10 .before .before .next-run .ensures) (c10 .before .before .before .before .before .before .before .loop .inv .0
+          .stands) (c10 .before .before .before .if2 .left) (c10 .before .before .before .before .before .if1 .taken)) (c .before .before
+          .before .before .run-here2 .ensures .0)),
+      λ z. omega (
+        arith,
+        c .before .before .before .before .run-here2 .ensures .1 z,
+        c10
+            .before .before .before .before .before .before .before .loop .inv .0 .long,
+      ),
+    )
 
 same-length-3 : tie.Need-same-length-3 Inv-loop μ-loop
-same-length-3 c = c .before .before .loop .inv .0 .stored ∙ c .before .before .before .before .before .before .before .run-here .ensures .0 .stored
+same-length-3 c =
+    c .before .before .loop .inv .0 .stored ∙ c .before .before .before .before .before .before .before .run-here .ensures .0
+    .stored
 
 same-length-4 : tie.Need-same-length-4 Inv-loop μ-loop
-same-length-4 c = c .before .before .loop .inv .0 .long ∙ c .before .before .before .before .before .before .before .run-here .ensures .0 .long
+same-length-4 c =
+    c .before .before .loop .inv .0 .long ∙ c .before .before .before .before .before .before .before .run-here .ensures .0 .long
 
 returns-2 : tie.Need-returns-2 Inv-loop μ-loop
-returns-2 c = (along-then _ _ (c .before .before .before .before .before .before .before .run-here .ensures .0) (c .before .before .loop .inv .0), λ z. omega (arith, c .before .before .loop .inv .1 z, c .before .before .before .before .before .before .before .run-here .ensures .0 .long), λ _. c .if1 .left)
+returns-2 c = (
+  along-then _ _ (c .before .before .before .before .before .before .before .run-here .ensures .0) (c .before .before .loop .inv
+      .0),
+  λ z. omega (
+    arith,
+    c .before .before .loop .inv .1 z,
+    c .before .before .before .before .before .before .before .run-here
+        .ensures .0 .long,
+  ),
+  λ _. c .if1 .left,
+)
 
 pub list-runs-spec : {M : Type 1} → statement M
 list-runs-spec =

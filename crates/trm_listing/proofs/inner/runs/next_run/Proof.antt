@@ -32,7 +32,13 @@ add-t10 : tie.Need-add-t10
 add-t10 c = search needs
 
 returns : tie.Need-returns
-returns c = rw (c .before .before .before .before .word-at .ensures, c .before .before .before .byte-at .ensures, c .before .before .word-at2 .ensures)
+returns c =
+    rw (
+      c .before .before .before .before .word-at .ensures,
+      c .before .before .before .byte-at .ensures,
+      c .before .before
+          .word-at2 .ensures,
+    )
 
 pub next-run-spec : {M : Type 1} → statement M
 next-run-spec =

@@ -30,7 +30,15 @@ returns c =
     rw (c .hold-all .ensures) (onward-held _ _ (c .before .before .before .before .before .before .before .args .l) _ _ _ _ a (sym (c .before .before .before .is-stalled .ensures) ∙ c .before .before .if1 .taken) (c .before .before .before .before .before .before .before .pre .1), λ z. absurd (z refl))
 
 list-clocks-requires : tie.Need-list-clocks-requires
-list-clocks-requires c κs = (c .before .before .before .before .before .before .before .before .before .before .before .before .pre .0, c .before .before .before .before .before .before .before .before .before .before .before .before .pre .1, sym (c .before .before .before .before .before .before .before .before .is-stalled .ensures) ∙ c .before .before .before .before .before .before .before .if1 .left, c .before .before .before .before .before .before .before .before .before .before .before .before .pre .2)
+list-clocks-requires c κs =
+    let c10 = c .before .before .before .before .before .before .before .before .before .before in (
+      c10 .before .before .pre .0,
+      c10 .before .before .pre .1,
+      sym (c .before .before .before .before .before .before .before
+          .before .is-stalled .ensures) ∙ c .before .before .before .before .before .before .before .if1 .left,
+      c10 .before .before .pre
+          .2,
+    )
 
 same-length : tie.Need-same-length
 same-length c = search needs

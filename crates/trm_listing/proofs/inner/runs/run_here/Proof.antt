@@ -9,7 +9,9 @@ use Rattle.trm_listing.proofs.inner.runs.run_here.Lts as lts
 use Rattle.trm_listing.proofs.inner.runs.run_clocks.Reads as run-clocks-reads
 
 run-clocks-requires : tie.Need-run-clocks-requires
-run-clocks-requires c κs = (c .before .before .before .before .before .before .before .before .before .before .before .before .pre .0 .able, c .before .before .before .before .before .before .before .before .before .before .before .before .pre .0 .fits, c .before .before .before .before .before .before .before .before .before .before .before .before .pre .1)
+run-clocks-requires c κs =
+    let c10 = c .before .before .before .before .before .before .before .before .before .before in
+    (c10 .before .before .pre .0 .able, c10 .before .before .pre .0 .fits, c10 .before .before .pre .1)
 
 same-length : tie.Need-same-length
 same-length c = search needs
@@ -18,7 +20,13 @@ same-length-2 : tie.Need-same-length-2
 same-length-2 c = search needs
 
 returns : tie.Need-returns
-returns c = (along-clocks _ _ _ _ _ _ _ _ (c .before .before .before .before .before .before .before .before .before .before .before .before .before .before .before .before .before .pre .0) (c .before .before .before .before .run-clocks .ensures .0), c .before .before .before .before .run-clocks .ensures .1, refl)
+returns c =
+    let c10 = c .before .before .before .before .before .before .before .before .before .before in (
+      along-clocks _ _ _ _ _ _ _ _ (c10 .before .before .before .before .before .before .before .pre .0) (c .before .before .before
+          .before .run-clocks .ensures .0),
+      c .before .before .before .before .run-clocks .ensures .1,
+      refl,
+    )
 
 pub run-here-spec : {M : Type 1} → statement M
 run-here-spec = tie.close (tie.spec run-clocks-requires same-length same-length-2 returns)

@@ -1,0 +1,107 @@
+-- The whole output: the first piece and what is still to be written then.
+-- Idea: what is to be written clock by clock is all lines and then the last one.
+-- Assumes nothing.
+use Prim.Native.Nat.{ℕ, _+_, _*_, _-_, _/_, _≤_}
+use mathlib.Core.Path.{_≡_, refl, sym, ap, _∙_, subst}
+use mathlib.Core.Bool.{true, false, cond}
+use mathlib.Core.List.{List, [], _∷_, _++_, append-assoc, append-nil}
+use native.Mathlib.Omega.{arith}
+use lib.ListN.{length, take, drop, replicate, length-append, length-replicate}
+use lib.Seq.{take-at}
+use lib.Dec.{eqb}
+use Rattle.trm_word.specs.Address.{storeLengthOk}
+use Rattle.trm_reference.specs.Geometry.{paperGeometry}
+use Rattle.trm_reference.specs.Trace.{Pins, clocks, endOf}
+use Rattle.trm_core.specs.Record as core
+use Rattle.trm_core.specs.Record.{Lent, resetOf}
+use Rattle.trm_core.specs.Clock.{clockOf}
+use Rattle.trm_core.specs.Claims.{Kept}
+use Rattle.trm_core.specs.Refusals.{resetRefusal, programOk}
+use Rattle.trm_plan.proofs.Laws.Facts.{paper-ok}
+use Rattle.trm_agreement.proofs.Laws.Demand.{reset-kept}
+use Rattle.trm_image.specs.Records.{lengthAt, wordsAt, begins}
+use Rattle.trm_image.specs.Refused.{imageFault}
+use Rattle.trm_image.specs.Meaning.{Image, imageOf, runsIn}
+use Rattle.trm_image.proofs.Laws.Accepted.{Runs, Head, accepted-head, length-wordsAt}
+use Rattle.trm_text.specs.Lines.{Line, lineBytes, linesBytes, header, refusedBytes}
+use Rattle.trm_text.specs.Wrote.{Wrote}
+use Rattle.trm_listing.specs.Listing.{lineOf, tookAfter, linesFrom, pinsOfRuns, firstStore, startOf, linesOf, finalOf, endLine}
+use Rattle.trm_listing.specs.Listing.{listingOf, outputOf}
+use Rattle.trm_listing.specs.Rest.{textFrom, pinsLeft, Stands}
+use Rattle.trm_listing.specs.Loaded.{Loaded}
+
+lines-append : (ls ms : List Line) → linesBytes (ls ++ ms) ≡ linesBytes ls ++ linesBytes ms
+unfolding linesBytes
+lines-append [] ms = refl
+lines-append (l ∷ ls) ms = ap (λ t. lineBytes l ++ t) (lines-append ls ms) ∙ sym (append-assoc (lineBytes l) (linesBytes ls) (linesBytes ms))
+
+text-all : (p : List ℕ) (is : List Pins) (x : Lent) (took : ℕ)
+    → textFrom p x took is ≡ linesBytes (linesFrom p x took is) ++ endLine (endOf x (clocks (clockOf paperGeometry p) x is))
+unfolding textFrom linesFrom linesBytes clocks endOf
+text-all p [] x took = refl
+text-all p (i ∷ is) x took =
+    let after = clockOf paperGeometry p x i .state in
+    let t = tookAfter p x i took in
+    let e = endLine (endOf after (clocks (clockOf paperGeometry p) after is)) in
+    ap (λ r. linesBytes (lineOf p x i took) ++ r) (text-all p is after t)
+    ∙ sym (append-assoc (linesBytes (lineOf p x i took)) (linesBytes (linesFrom p after t is)) e)
+    ∙ ap (λ r. r ++ e) (sym (lines-append (lineOf p x i took) (linesFrom p after t is)))
+
+listing-text : (I : Image) → listingOf I ≡ header ++ textFrom (I .program) (startOf (I .first)) 0 (pinsOfRuns (I .runs))
+unfolding listingOf linesOf finalOf
+listing-text I =
+    append-assoc header (linesBytes (linesFrom (I .program) (startOf (I .first)) 0 (pinsOfRuns (I .runs)))) _
+    ∙ ap (λ t. header ++ t) (sym (text-all (I .program) (pinsOfRuns (I .runs)) (startOf (I .first)) 0))
+
+reset-clocks : (st : List ℕ) → resetOf paperGeometry st .scalars .counts .clocks ≡ 0
+unfolding resetOf
+reset-clocks st = refl
+
+module _ (s : List ℕ) where
+  pub output-refused : (n a len : ℕ) (b b′ : List ℕ) → n ≡ imageFault 2048 s .number → a ≡ imageFault 2048 s .at → eqb n 0 ≡ false
+      → Wrote b 0 (refusedBytes n a) b′ len → outputOf s ≡ take len b′ ++ []
+  unfolding outputOf
+  output-refused n a len b b′ e f z w = rw (← e, ← f, z) (sym (append-nil (take len b′) ∙ w .text))
+
+  -- the image is accepted
+  module _ (ok : imageFault 2048 s .number ≡ 0) where
+    pub program-is : (n : ℕ) (program : List ℕ) → n ≡ lengthAt s 0 / 4 → program ≡ wordsAt s 6 n ++ replicate (4096 - n) 0
+        → take n program ≡ imageOf s .program
+    program-is n program e f =
+        ap (take n) f ∙ take-at (wordsAt s 6 n) (replicate (4096 - n) 0) n (length-wordsAt s 6 n)
+        ∙ ap (wordsAt s 6) e ∙ sym (accepted-head 2048 s ok .is)
+
+    module _ (p : List ℕ) (is : p ≡ imageOf s .program) (m : core.Machine) (st : List ℕ) (reset : m ≡ resetOf paperGeometry st) (at : ℕ)
+        (loaded : Loaded s st at) where
+      pub output-begun : (left : ℕ) (line : ℕ) (input : ℕ) → left ≡ 0 → (len : ℕ) (b b′ : List ℕ) → Wrote b 0 header b′ len
+          → outputOf s ≡ take len b′ ++ textFrom p (record { machine = m; store = st }) 0
+          (replicate left (record { line = line; input = input }) ++ pinsOfRuns (runsIn s (begins 0 at (drop at s))))
+      unfolding outputOf startOf
+      output-begun left line input none len b b′ w =
+          rw (ok, none, w .text, is, reset, ← loaded .list, loaded .store) (listing-text (imageOf s))
+
+      pub begun-stands : length st ≡ 2048
+          → Stands s p (record { listed = record { scalars = m .scalars; left = 0; took = 0; len = 0 }; at = at; line = 0; input = 0 })
+          (record { machine = m; store = st }) []
+      unfolding resetRefusal
+      begun-stands long =
+          let h : Head 2048 s = accepted-head 2048 s ok in
+          let legal : resetRefusal st ≡ 0 = rw (long, h .store) in
+          let k : Kept paperGeometry p (record { machine = m; store = st }) =
+          subst (λ y. Kept paperGeometry p (record { machine = y; store = st })) (sym reset) (reset-kept paperGeometry p st paper-ok legal) in
+          let none : m .scalars .counts .clocks ≡ 0 = ap (λ (y : core.Machine). y .scalars .counts .clocks) reset ∙ reset-clocks st in
+          record {
+            able = record {
+              program = rw (is, h .is) (h .program);
+              store = k .store;
+              rule = k .record-ok;
+              shaped = k .shaped;
+              room = omega (arith, none);
+              few = omega arith;
+              low = omega arith;
+            };
+            runs = loaded .runs;
+            small = h .small;
+            room = omega (arith, none, h .small);
+            fits = omega arith;
+          }

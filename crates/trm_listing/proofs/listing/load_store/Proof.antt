@@ -1,0 +1,94 @@
+-- The proof of trm_listing::listing::load_store.
+use mathlib.Core.Path.{refl, sym, ap, _∙_}
+use native.Mathlib.Omega.{arith}
+use Prim.Native.Nat.{_+_}
+use Rattle.trm_image.specs.Records.{kindAt}
+use Rattle.trm_listing.proofs.Laws.Load.{head, loaded-third, loaded-second, second, second-fits}
+use borrow.Author.Needs.{needs}
+use Rattle.trm_listing.proofs.listing.load_store.Statement.{statement}
+use Rattle.trm_listing.proofs.listing.load_store.Tie as tie
+use Rattle.trm_listing.proofs.listing.load_store.Reads as reads
+use Rattle.trm_listing.proofs.listing.load_store.Lts as lts
+use Rattle.trm_image.proofs.inner.bytes.half_at.Reads as half-at-reads
+use Rattle.trm_image.proofs.inner.bytes.word_at.Reads as word-at-reads
+use Rattle.trm_image.proofs.inner.words.load_words.Reads as load-words-reads
+
+word-at-requires : tie.Need-word-at-requires
+word-at-requires c κs = search needs
+
+cast-at : tie.Need-cast-at
+cast-at c = search needs
+
+add-at : tie.Need-add-at
+add-at c = search needs
+
+add-half-at : tie.Need-add-half-at
+add-half-at c = search needs
+
+half-at-requires : tie.Need-half-at-requires
+half-at-requires c κs = search needs
+
+load-words-requires : tie.Need-load-words-requires
+load-words-requires c κs =
+    let h = head _ _ (c .before .before .before .before .before .before .pre) in
+    (omega (arith, c .before .before .before .word-at .ensures, h .long), omega arith, omega (arith, c .before .before .before .before .before .before .pre .long))
+
+same-length : tie.Need-same-length
+same-length c = search needs
+
+returns : tie.Need-returns
+returns c =
+    loaded-third _ _ (c .before .before .before .before .before .before .before .before .before .pre) _ (ap (λ k. 6 + k) (c .before
+    .before .before .before .before .before .word-at .ensures)) (λ z. c .before .before .before .before .if1 .taken (c .before
+    .before .before .before .before .half-at .ensures ∙ z)) _ (c .before .before .load-words .ensures)
+
+word-at-requires-2 : tie.Need-word-at-requires-2
+word-at-requires-2 c κs = search needs
+
+cast-length : tie.Need-cast-length
+cast-length c = search needs
+
+add-load-words : tie.Need-add-load-words
+add-load-words c = search needs
+
+load-words-requires-2 : tie.Need-load-words-requires-2
+load-words-requires-2 c κs =
+    let h = head _ _ (c .before .before .before .before .before .before .before .pre) in
+    let k = sym (c .before .before .before .half-at .ensures) ∙ c .before .before .if1 .left in
+    let f = second-fits _ _ (c .before .before .before .before .before .before .before .pre) _ (ap (λ k. 6 + k) (c .before .before .before .before .word-at .ensures)) k in
+    (omega (arith, c .before .before .before .before .word-at .ensures, h .long), omega (arith, c .before .word-at2 .ensures, f, c .before .before .before .before .before .before .before .pre .long), omega (arith, c .before .before .before .before .before .before .before .pre .long))
+
+add-result : tie.Need-add-result
+add-result c = search needs
+
+add-result-2 : tie.Need-add-result-2
+add-result-2 c = search needs
+
+same-length-2 : tie.Need-same-length-2
+same-length-2 c = search needs
+
+returns-2 : tie.Need-returns-2
+returns-2 c =
+    let k = sym (c .before .before .before .before .before .before .half-at .ensures) ∙ c .before .before .before .before .before .if1 .left in
+    loaded-second _ _ (c .before .before .before .before .before .before .before .before .before .before .pre) _ (ap (λ k. 6 + k) (c .before .before .before .before .before .before .before .word-at .ensures)) k _ (c .before .before .before .before .word-at2 .ensures) _ (c .before .before .load-words2 .ensures)
+
+pub load-store-spec : {M : Type 1} → statement M
+load-store-spec =
+    tie.close
+    (tie.spec
+    word-at-requires
+    cast-at
+    add-at
+    add-half-at
+    half-at-requires
+    load-words-requires
+    same-length
+    returns
+    word-at-requires-2
+    cast-length
+    add-load-words
+    load-words-requires-2
+    add-result
+    add-result-2
+    same-length-2
+    returns-2)

@@ -1,0 +1,64 @@
+-- A listing piece by piece: what start and each piece put into the buffer, and what is still to come.
+-- Paper: "lines gathered and written in large pieces" is ours; the bytes are `outputOf`. Assumes nothing.
+--   restOf s p st l   what is to be written after the pieces so far        StartHolds, PieceHolds   the contracts
+use Prim.Native.Nat.{ℕ, _≤_, _<_}
+use mathlib.Core.Path.{_≡_}
+use mathlib.Core.Bool.{true, false, cond}
+use mathlib.Core.List.{List, [], _++_}
+use lib.ListN.{length, take}
+use Rattle.trm_core.specs.Record.{Lent}
+use Rattle.trm_engine.specs.Machine.{recordOf}
+use Rattle.trm_text.specs.Lines.{endBytes}
+use Rattle.trm_text.specs.Wrote.{Wrote}
+use Rattle.trm_listing.specs.declared.inner.runs.Place.{Place}
+use Rattle.trm_listing.specs.declared.inner.finish.Ended.{Ended}
+use Rattle.trm_listing.specs.declared.listing.Listing.{Listing}
+use Rattle.trm_listing.specs.Listing.{outputOf, endLine}
+use Rattle.trm_listing.specs.Rest.{textFrom, pinsLeft, Stands}
+
+abbrev pub lentBy : Listing → List ℕ → Lent
+lentBy l st = record { machine = recordOf (l .machine); store = st }
+
+-- where it stands in the image, a new piece being empty
+abbrev pub placeOf : Listing → Place
+placeOf l =
+    record {
+      listed = record { scalars = l .machine .scalars; left = l .left; took = l .took; len = 0 };
+      at = l .at;
+      line = l .line;
+      input = l .input;
+    }
+
+-- s the image, p the program's words, st the store
+unfoldable pub restOf : List ℕ → List ℕ → List ℕ → Listing → List ℕ
+restOf s p st l = cond (l .over) [] (textFrom p (lentBy l st) (l .took) (pinsLeft s (placeOf l)))
+
+-- a listing that is not over stands in its image
+abbrev pub Ready : List ℕ → List ℕ → List ℕ → Listing → Type 0
+Ready s p st l = l .over ≡ false → Stands s p (placeOf l) (lentBy l st) []
+
+-- the first piece: program and store are loaded, and the buffer holds the header, or the line of a refusal
+pub record StartHolds (s : List ℕ) (r : Listing) (program st b : List ℕ) : Type 0 where
+  pub text : outputOf s ≡ take (r .len) b ++ restOf s (take (r .words) program) st r
+  pub ready : Ready s (take (r .words) program) st r
+  pub fits : r .len ≤ length b
+  pub words : r .words ≤ length program
+
+-- any other: it holds the next bytes, and some unless it is the last
+pub record PieceHolds (s p st : List ℕ) (l r : Listing) (st′ b′ : List ℕ) : Type 0 where
+  pub text : restOf s p st l ≡ take (r .len) b′ ++ restOf s p st′ r
+  pub ready : Ready s p st′ r
+  pub fits : r .len ≤ length b′
+  pub goes : r .over ≡ false → 0 < r .len
+  pub words : r .words ≡ l .words
+
+-- the last line, put if all runs are over and there is room for it
+pub record EndHolds (q : Place) (b : List ℕ) (r : Ended) (b′ : List ℕ) : Type 0 where
+  pub text : Wrote b (q .listed .len)
+      (cond (r .over)
+      (endBytes (q .listed .scalars .counts .clocks) (q .listed .scalars .counts .held) (q .listed .scalars .counts .refills)
+      (q .listed .scalars .counts .writebacks)) [])
+      b′ (r .len)
+  pub none : r .over ≡ true → q .listed .left ≡ 0
+  pub full : r .over ≡ false → q .listed .left ≡ 0 → 0 < q .listed .len
+  pub fits : r .len ≤ length b′

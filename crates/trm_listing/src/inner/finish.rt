@@ -1,0 +1,46 @@
+// The last line of a listing.
+// Paper: "`end` ..", the clock count and the counts of held clocks, refills and write-backs.
+// It waits for the next piece where there is no room for it.
+ghost use Prim.Native.Nat.{_≤_};
+ghost use lib.ListN.{length};
+ghost use Rattle.trm_listing.specs.Pieces.{EndHolds};
+use crate::inner::runs::Place;
+use trm_text::inner::lines;
+
+// How far the buffer is filled, and whether the listing is over.
+pub struct Ended {
+    pub len: usize,
+    pub over: bool,
+}
+
+pub fn put_last(q: Place, buf: &mut [u8]) -> Ended
+    requires { ⌜ (q .listed .len ≤ length (now buf)) × (128 ≤ length (now buf)) ⌝ }
+    ensures { λ r. ⌜ EndHolds q (now (buf .entry)) r (now (buf .exit)) ⌝ }
+{
+    let l = q.listed;
+    if l.left != 0 {
+        return Ended {
+            len: l.len,
+            over: false,
+        };
+    }
+    if buf.len() - l.len < 80 {
+        return Ended {
+            len: l.len,
+            over: false,
+        };
+    }
+    let c = l.scalars;
+    let len = lines::put_end(
+        buf,
+        l.len,
+        c.counts.clocks,
+        c.counts.held,
+        c.counts.refills,
+        c.counts.writebacks,
+    );
+    Ended {
+        len: len,
+        over: true,
+    }
+}
