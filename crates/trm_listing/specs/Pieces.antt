@@ -1,4 +1,4 @@
--- A listing piece by piece: what start and each piece put into the buffer, and what is still to come.
+-- A listing piece by piece: what the first and each next piece puts into the buffer, and what is still to come.
 -- Paper: "lines gathered and written in large pieces" is ours; the bytes are `outputOf`. Assumes nothing.
 --   restOf s p st l   what is to be written after the pieces so far        StartHolds, PieceHolds   the contracts
 use Prim.Native.Nat.{ℕ, _≤_, _<_}
@@ -38,19 +38,24 @@ abbrev pub Ready : List ℕ → List ℕ → List ℕ → Listing → Type 0
 Ready s p st l = l .over ≡ false → Stands s p (placeOf l) (lentBy l st) []
 
 -- the first piece: program and store are loaded, and the buffer holds the header, or the line of a refusal
-pub record StartHolds (s : List ℕ) (r : Listing) (program st b : List ℕ) : Type 0 where
+pub record StartHolds (s b₀ : List ℕ) (r : Listing) (program st b : List ℕ) : Type 0 where
   pub text : outputOf s ≡ take (r .len) b ++ restOf s (take (r .words) program) st r
   pub ready : Ready s (take (r .words) program) st r
   pub fits : r .len ≤ length b
   pub words : r .words ≤ length program
+  pub programmed : length program ≡ 4096
+  pub stored : length st ≡ 2048
+  pub long : length b ≡ length b₀
 
 -- any other: it holds the next bytes, and some unless it is the last
-pub record PieceHolds (s p st : List ℕ) (l r : Listing) (st′ b′ : List ℕ) : Type 0 where
+pub record PieceHolds (s p st b : List ℕ) (l r : Listing) (st′ b′ : List ℕ) : Type 0 where
   pub text : restOf s p st l ≡ take (r .len) b′ ++ restOf s p st′ r
   pub ready : Ready s p st′ r
   pub fits : r .len ≤ length b′
   pub goes : r .over ≡ false → 0 < r .len
   pub words : r .words ≡ l .words
+  pub stored : length st′ ≡ length st
+  pub long : length b′ ≡ length b
 
 -- the last line, put if all runs are over and there is room for it
 pub record EndHolds (q : Place) (b : List ℕ) (r : Ended) (b′ : List ℕ) : Type 0 where

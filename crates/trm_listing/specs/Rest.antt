@@ -1,5 +1,5 @@
 -- A listing in the middle: what is still to be written. Terms of inner contracts.
--- Paper: "lines gathered"; none of these need be believed but `restOf`, in the contracts of start and piece.
+-- Paper: "lines gathered"; none of these need be believed but `restOf`, in the contracts of the pieces.
 -- Assumes nothing.
 --   textFrom p x took is   the lines from x on, and the last line        Able   what every clock of a listing asks
 --   Onward                 clocks are gone, and their lines are in the buffer

@@ -1,4 +1,4 @@
-// The listing of an image, piece by piece: start puts the first bytes into the buffer, each piece the next ones.
+// The listing of an image, piece by piece: the first puts its bytes into the buffer, each other the next ones.
 // Paper: "reads an image .. with a store of 2,048 words, checks it whole, and runs it".
 // The program is checked once, by the image's check; the caller writes out each piece before it asks for the next.
 ghost use mathlib.Core.Path.{_≡_};
@@ -63,9 +63,9 @@ fn load_store(image: &[u8], store: &mut [u32]) -> usize
 }
 
 // The image is checked whole; then program and store are loaded and the header is put, or the line of the refusal.
-pub fn start(image: &[u8], program: &mut [u32], store: &mut [u32], buf: &mut [u8]) -> Listing
+pub fn first_piece(image: &[u8], program: &mut [u32], store: &mut [u32], buf: &mut [u8]) -> Listing
     requires { ⌜ (length (now program) ≡ 4096) × (length (now store) ≡ 2048) × (128 ≤ length (now buf)) ⌝ }
-    ensures { λ r. ⌜ StartHolds (now (image .entry)) r (now (program .exit)) (now (store .exit)) (now (buf .exit)) ⌝ }
+    ensures { λ r. ⌜ StartHolds (now (image .entry)) (now (buf .entry)) r (now (program .exit)) (now (store .exit)) (now (buf .exit)) ⌝ }
 {
     let checked = reader::check(image, 2048);
     let fault = checked.fault;
@@ -103,7 +103,7 @@ pub fn start(image: &[u8], program: &mut [u32], store: &mut [u32], buf: &mut [u8
 }
 
 // The next piece, from the beginning of the buffer on; nothing once the listing is over.
-pub fn piece(
+pub fn next_piece(
     l: Listing,
     image: &[u8],
     program: &[u32],
@@ -111,7 +111,7 @@ pub fn piece(
     buf: &mut [u8],
 ) -> Listing
     requires { ⌜ Ready (now image) (now program) (now store) l × (128 ≤ length (now buf)) ⌝ }
-    ensures { λ r. ⌜ PieceHolds (now (image .entry)) (now (program .entry)) (now (store .entry)) l r (now (store .exit)) (now (buf .exit)) ⌝ }
+    ensures { λ r. ⌜ PieceHolds (now (image .entry)) (now (program .entry)) (now (store .entry)) (now (buf .entry)) l r (now (store .exit)) (now (buf .exit)) ⌝ }
 {
     let m = l.machine;
     if l.over {

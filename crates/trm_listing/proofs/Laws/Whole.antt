@@ -71,6 +71,15 @@ module _ (s : List ℕ) where
         ap (take n) f ∙ take-at (wordsAt s 6 n) (replicate (4096 - n) 0) n (length-wordsAt s 6 n)
         ∙ ap (wordsAt s 6) e ∙ sym (accepted-head 2048 s ok .is)
 
+    pub program-whole : (n : ℕ) (program : List ℕ) → n ≡ lengthAt s 0 / 4 → program ≡ wordsAt s 6 n ++ replicate (4096 - n) 0
+        → length program ≡ 4096
+    program-whole n program e f =
+        let h : lengthAt s 0 ≤ 16384 = accepted-head 2048 s ok .long in
+        let a = length-append (wordsAt s 6 n) (replicate (4096 - n) 0) in
+        let w = length-wordsAt s 6 n in
+        let z = length-replicate {A = ℕ} (4096 - n) 0 in
+        ap length f ∙ omega (arith, a, w, z, e, h)
+
     module _ (p : List ℕ) (is : p ≡ imageOf s .program) (m : core.Machine) (st : List ℕ) (reset : m ≡ resetOf paperGeometry st) (at : ℕ)
         (loaded : Loaded s st at) where
       pub output-begun : (left : ℕ) (line : ℕ) (input : ℕ) → left ≡ 0 → (len : ℕ) (b b′ : List ℕ) → Wrote b 0 header b′ len

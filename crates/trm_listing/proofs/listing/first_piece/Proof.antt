@@ -1,4 +1,5 @@
--- The proof of trm_listing::listing::start.
+-- The proof of trm_listing::listing::first_piece.
+use Rattle.trm_listing.proofs.Laws.Whole.{output-refused, program-is, program-whole, output-begun, begun-stands}
 use mathlib.Core.Path.{_≡_, refl, sym, ap, _∙_}
 use native.Mathlib.Omega.{arith}
 use Prim.Native.Nat.{_-_, _/_}
@@ -15,10 +16,10 @@ use Rattle.trm_listing.specs.Rest.{pinsLeft}
 use Rattle.trm_listing.specs.Pieces.{restOf}
 use Rattle.trm_listing.proofs.Laws.Whole.{output-refused, program-is, output-begun, begun-stands}
 use borrow.Author.Needs.{needs}
-use Rattle.trm_listing.proofs.listing.start.Statement.{statement}
-use Rattle.trm_listing.proofs.listing.start.Tie as tie
-use Rattle.trm_listing.proofs.listing.start.Reads as reads
-use Rattle.trm_listing.proofs.listing.start.Lts as lts
+use Rattle.trm_listing.proofs.listing.first_piece.Statement.{statement}
+use Rattle.trm_listing.proofs.listing.first_piece.Tie as tie
+use Rattle.trm_listing.proofs.listing.first_piece.Reads as reads
+use Rattle.trm_listing.proofs.listing.first_piece.Lts as lts
 use Rattle.trm_calls.proofs.inner.start.zero_record.Reads as zero-record-reads
 use Rattle.trm_image.proofs.inner.bytes.word_at.Reads as word-at-reads
 use Rattle.trm_image.proofs.inner.words.load_words.Reads as load-words-reads
@@ -56,7 +57,7 @@ unfolding restOf pinsLeft
 returns c =
     let e = c .before .before .before .before .before .before .before .before .before .check .ensures in
     let bad = ap (λ k. eqb k 0) (c .before .before .before .before .before .number .ensures) ∙ sym (c .before .before .before .before .before .before .before .before .accepted .ensures) ∙ not-true _ (c .before .before .before .before .before .before .before .if1 .taken) in
-    record { text = output-refused _ _ _ _ _ _ (c .before .before .before .before .before .number .ensures ∙ e .number) (e .at) bad (c .before .before .before .before .put-refused .ensures .0); ready = λ z. clash (sym z); fits = omega (arith, c .before .before .before .before .put-refused .ensures .1, c .before .before .before .before .put-refused .ensures .0 .long, c .before .before .before .before .before .before .before .before .before .before .before .before .before .before .pre .2); words = omega arith }
+    record { text = output-refused _ _ _ _ _ _ (c .before .before .before .before .before .number .ensures ∙ e .number) (e .at) bad (c .before .before .before .before .put-refused .ensures .0); ready = λ z. clash (sym z); fits = omega (arith, c .before .before .before .before .put-refused .ensures .1, c .before .before .before .before .put-refused .ensures .0 .long, c .before .before .before .before .before .before .before .before .before .before .before .before .before .before .pre .2); words = omega arith; programmed = c .before .before .before .before .before .before .before .before .before .before .before .before .before .before .pre .0; stored = c .before .before .before .before .before .before .before .before .before .before .before .before .before .before .pre .1; long = c .before .before .before .before .put-refused .ensures .0 .long }
 
 word-at-requires : tie.Need-word-at-requires
 word-at-requires c κs = search needs
@@ -83,9 +84,7 @@ zero-record-requires-2 c κs = omega (arith, c .before .before .before .load-sto
 
 put-header-requires : tie.Need-put-header-requires
 unfolding restOf pinsLeft
-put-header-requires c κs =
-    let c10 = c .before .before .before .before .before .before .before .before .before .before in
-    omega (arith, c10 .before .before .before .before .before .before .before .before .before .pre .2)
+put-header-requires c κs = omega (arith, c .before .before .before .before .before .before .before .before .before .before .before .before .before .before .before .before .before .before .before .pre .2)
 
 same-length-3 : tie.Need-same-length-3
 same-length-3 c = search needs
@@ -103,11 +102,12 @@ returns-2 c =
     let n = ap (λ w. w / 4) (c .before .before .before .before .before .before .before .before .before .before .before .before .before .before .word-at .ensures) in
     let is = program-is _ ok _ _ n (c .before .before .before .before .before .before .before .before .before .before .before .before .load-words .ensures ∙ ap (λ k. wordsAt (c .before .before .before .before .before .before .before .before .before .before .before .before .before .before .before .before .before .before .before .before .before .before .args .image .now) 6 (c .before .before .before .before .before .before .before .before .before .before .before .before .before .before .word-at .result / 4) ++ replicate (k - c .before .before .before .before .before .before .before .before .before .before .before .before .before .before .word-at .result / 4) 0) (c .before .before .before .before .before .before .before .before .before .before .before .before .before .before .before .before .before .before .before .before .before .before .pre .0)) in
     let ld = c .before .before .before .before .before .before .before .before .load-store .ensures in
+    let program-long = program-whole (c .before .before .before .before .before .before .before .before .before .before .before .before .before .before .before .before .before .before .before .before .before .before .args .image .now) ok (c .before .before .before .before .before .before .before .before .before .before .before .before .before .before .word-at .result / 4) _ n (c .before .before .before .before .before .before .before .before .before .before .before .before .load-words .ensures ∙ ap (λ k. wordsAt (c .before .before .before .before .before .before .before .before .before .before .before .before .before .before .before .before .before .before .before .before .before .before .args .image .now) 6 (c .before .before .before .before .before .before .before .before .before .before .before .before .before .before .word-at .result / 4) ++ replicate (k - c .before .before .before .before .before .before .before .before .before .before .before .before .before .before .word-at .result / 4) 0) (c .before .before .before .before .before .before .before .before .before .before .before .before .before .before .before .before .before .before .before .before .before .before .pre .0)) in
     let h = accepted-head 2048 _ ok in
-    record { text = output-begun _ ok _ is _ _ (c .before .before .before .before .zero-record2 .ensures) _ ld 0 0 0 refl _ _ _ (c .before .before .put-header .ensures .0); ready = λ _. begun-stands _ ok _ is _ _ (c .before .before .before .before .zero-record2 .ensures) _ ld (ld .long); fits = omega (arith, c .before .before .put-header .ensures .1, c .before .before .put-header .ensures .0 .long, c .before .before .before .before .before .before .before .before .before .before .before .before .before .before .before .before .before .before .before .before .before .before .pre .2); words = omega (arith, c .before .before .before .before .before .before .before .before .before .before .before .before .before .before .word-at .ensures, h .long, c .before .before .before .before .before .before .before .before .before .before .before .before .before .before .before .before .before .before .before .before .before .before .pre .0) }
+    record { text = output-begun _ ok _ is _ _ (c .before .before .before .before .zero-record2 .ensures) _ ld 0 0 0 refl _ _ _ (c .before .before .put-header .ensures .0); ready = λ _. begun-stands _ ok _ is _ _ (c .before .before .before .before .zero-record2 .ensures) _ ld (ld .long); fits = omega (arith, c .before .before .put-header .ensures .1, c .before .before .put-header .ensures .0 .long, c .before .before .before .before .before .before .before .before .before .before .before .before .before .before .before .before .before .before .before .before .before .before .pre .2); words = omega (arith, c .before .before .before .before .before .before .before .before .before .before .before .before .before .before .word-at .ensures, h .long, program-long); programmed = program-long; stored = ld .long; long = c .before .before .put-header .ensures .0 .long }
 
-pub start-spec : {M : Type 1} → statement M
-start-spec =
+pub first-piece-spec : {M : Type 1} → statement M
+first-piece-spec =
     tie.close
     (tie.spec
     check-requires
