@@ -2,7 +2,7 @@
 -- `Words`: words one after another; `Parts`: a payload as a part of the image; `Clean`: a record without a fault; `Walk`: record after
 -- record; `Runs`: runs to the end; `Accepted`: an accepted image; `Load`: words put into an array; `First`: the first fault; `Bytes`,
 -- `Written`, `Described`: an accepted image written out; `Readback`, `Unfaulted`, `Complete`: what is written out is accepted and read;
--- `Cases`: the table of images.
+-- `Tables`: the table of images.
 -- Assumes nothing.
 pub mod Words
 pub mod Parts
@@ -18,4 +18,4 @@ pub mod Described
 pub mod Readback
 pub mod Unfaulted
 pub mod Complete
-pub mod Cases
+pub mod Tables

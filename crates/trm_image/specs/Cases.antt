@@ -75,8 +75,9 @@ cases =
     ∷ row 2048 (program ++ 0 ∷ 0 ∷ 0 ∷ 0 ∷ 4 ∷ 0 ∷ []) 2 10
     ∷ row 2048 (4 ∷ 0 ∷ 0 ∷ 0 ∷ 1 ∷ 1 ∷ 5 ∷ 0 ∷ 0 ∷ 0 ∷ []) 2 0
     ∷ row 2048 (program ++ 1 ∷ 0 ∷ 0 ∷ 0 ∷ 4 ∷ 0 ∷ []) 1 10
-    -- repeated: kind 1, kind 2
+    -- repeated: kind 1, kind 1 of 16,384 bytes (4000H, the most that is right), kind 2
     ∷ row 2048 (program ++ program) 2 10
+    ∷ row 2048 (program ++ 0 ∷ 0x40 ∷ 0 ∷ 0 ∷ 1 ∷ 0 ∷ replicate 16384 0) 2 10
     ∷ row 2048 (program ++ second ++ second) 2 20
     -- out of order: kind 2 after kind 3, kind 2 first, kind 3 first
     ∷ row 2048 (program ++ run 1 0 0 0 ++ second) 2 25

@@ -52,7 +52,7 @@ fn length_wrong(kind: u32, length: usize, words: usize) -> bool
         1 => program_length_wrong(length),
         2 => {
             if length / 4 > words {
-                return true;
+                return true; // over the store
             }
             not_in_fours(length)
         }
@@ -71,7 +71,7 @@ fn count_wrong(s: &[u8], at: usize) -> bool
     }
     let count = bytes::word_at(s, at + 6);
     if count == 0 {
-        return true;
+        return true; // no clock at all
     }
     count > 65536
 }

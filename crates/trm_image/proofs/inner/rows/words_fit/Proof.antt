@@ -5,7 +5,6 @@ use Prim.Native.Nat.{_+_, _*_, _-_, _≤_, _<_}
 use native.Mathlib.Omega.{arith}
 use Rattle.trm_core.specs.Refusals.{allAtMost}
 use Rattle.trm_image.specs.Records.{wordsAt}
-use Rattle.trm_image.proofs.Laws.Words.{fits-more, fits-bad, fits-end}
 use borrow.Author.Needs.{needs}
 use Rattle.trm_image.proofs.inner.rows.words_fit.Statement.{statement}
 use Rattle.trm_image.proofs.inner.rows.words_fit.Tie as tie
@@ -32,7 +31,10 @@ word-at-requires : tie.Need-word-at-requires Inv-loop μ-loop
 word-at-requires c κs = omega (arith, c .before .before .before .pre)
 
 returns : tie.Need-returns Inv-loop μ-loop
-returns c = sym (fits-bad _ _ _ _ _ (c .before .before .loop-test .taken) (subst (λ x. _ < x) (c .before .word-at .ensures) (c .if1 .taken))) ∙ c .before .before .before .loop .inv
+returns c =
+    let big : 0x3FFFF < c .before .word-at .result = omega (arith, c .if1 .taken) in
+    sym (fits-bad _ _ _ 0x3FFFF _ (c .before .before .loop-test .taken) (subst (λ x. _ < x) (c .before .word-at .ensures) big))
+    ∙ c .before .before .before .loop .inv
 
 add-i : tie.Need-add-i Inv-loop μ-loop
 add-i c = omega arith
@@ -41,7 +43,10 @@ loop-less : tie.Need-loop-less Inv-loop μ-loop
 loop-less c = omega arith
 
 loop-again : tie.Need-loop-again Inv-loop μ-loop
-loop-again c = sym (fits-more _ _ _ _ _ (c .before .before .loop-test .taken) (subst (λ x. x ≤ _) (c .before .word-at .ensures) (c .if1 .left))) ∙ c .before .before .before .loop .inv
+loop-again c =
+    let small : c .before .word-at .result ≤ 0x3FFFF = omega (arith, c .if1 .left) in
+    sym (fits-more _ _ _ 0x3FFFF _ (c .before .before .loop-test .taken) (subst (λ x. x ≤ _) (c .before .word-at .ensures) small))
+    ∙ c .before .before .before .loop .inv
 
 returns-2 : tie.Need-returns-2 Inv-loop μ-loop
 returns-2 c = sym (fits-end _ _ _ _ _ (c .loop-test .left)) ∙ c .before .loop .inv

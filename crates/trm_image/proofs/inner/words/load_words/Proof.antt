@@ -26,25 +26,26 @@ loop-holds c = (refl, refl)
 word-or-zero-requires : tie.Need-word-or-zero-requires Inv-loop μ-loop
 word-or-zero-requires c κs = (
   c .before .before .before .before .pre .0,
-  omega (arith, c .before .before .before .before .pre .2, c .before .loop .inv .0),
+  omega (arith, c .before .before .before .before .pre .1, c .before .before .before .before .pre .2, c .before .loop .inv .0),
 )
 
 mul-out : tie.Need-mul-out Inv-loop μ-loop
 mul-out c = search needs
 
 slice-write-out : tie.Need-slice-write-out Inv-loop μ-loop
-slice-write-out c = search needs
+slice-write-out c = omega (arith, c .before .before .before .before .before .pre .1, c .before .before .loop .inv .0)
 
 add-i : tie.Need-add-i Inv-loop μ-loop
 add-i c = search needs
 
 loop-less : tie.Need-loop-less Inv-loop μ-loop
-loop-less c = omega (arith, c .before .before .loop .inv .0)
+loop-less c = omega (arith, c .before .before .before .before .before .pre .1, c .before .before .loop .inv .0)
 
 loop-again : tie.Need-loop-again Inv-loop μ-loop
 loop-again c =
     load-more _ _ _ _ (c .before .before .before .before .before .pre .1) _ _ _ (c .before .before .loop .inv .0)
-    (c .before .loop-test .taken) (c .before .before .loop .inv .1) (c .word-or-zero .ensures)
+    (omega (arith, c .before .before .before .before .before .pre .1, c .before .before .loop .inv .0, c .before .loop-test .taken))
+    (c .before .before .loop .inv .1) (c .word-or-zero .ensures)
 
 same-length : tie.Need-same-length Inv-loop μ-loop
 same-length c = search needs
