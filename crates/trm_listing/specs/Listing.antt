@@ -17,7 +17,8 @@ use Rattle.trm_core.specs.Record.{Lent, resetOf}
 use Rattle.trm_core.specs.Clock.{clockOf}
 use Rattle.trm_image.specs.Meaning.{Run, Image, imageOf}
 use Rattle.trm_image.specs.Refused.{imageFault}
-use Rattle.trm_text.specs.Lines.{Line, word, irq, linesBytes, header, endBytes, refusedBytes}
+use Rattle.trm_text.specs.declared.inner.lines.Shown.the-variants.{Word, Irq0, Irq1}
+use Rattle.trm_text.specs.Lines.{Line, linesBytes, header, endBytes, refusedBytes}
 
 -- the PC that an interrupt of this clock goes to, 2 or 3, and 0 if it takes none: nothing is in flight
 unfoldable pub interruptAt : Lent → Pins → ℕ
@@ -36,14 +37,14 @@ lineOf p x i took =
     (record {
       clock = x .machine .scalars .counts .clocks + 1;
       at = x .machine .scalars .pc;
-      shown = irq (interruptAt x i - 2);
+      shown = cond (eqb (interruptAt x i) 2) Irq0 Irq1;
       took = 1;
     } ∷ [])
     (cond (carriesOut p x i)
     (record {
       clock = x .machine .scalars .counts .clocks + 1;
       at = x .machine .scalars .pc;
-      shown = word (wordAt p (x .machine .scalars .pc));
+      shown = Word (wordAt p (x .machine .scalars .pc));
       took = took + 1;
     } ∷ [])
     []))

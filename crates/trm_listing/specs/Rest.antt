@@ -19,7 +19,8 @@ use Rattle.trm_core.specs.Claims.{Shaped}
 use Rattle.trm_core.specs.Rule.{recordOk}
 use Rattle.trm_core.specs.Refusals.{programOk, storeOk}
 use Rattle.trm_clock.specs.declared.inner.outcome.Clocked.{Clocked}
-use Rattle.trm_text.specs.Lines.{word, irq, lineBytes, linesBytes}
+use Rattle.trm_text.specs.declared.inner.lines.Shown.the-variants.{Word, Irq0, Irq1}
+use Rattle.trm_text.specs.Lines.{lineBytes, linesBytes}
 use Rattle.trm_text.specs.Wrote.{Wrote}
 use Rattle.trm_image.specs.Records.{begins}
 use Rattle.trm_image.specs.Meaning.{runsIn}
@@ -64,7 +65,7 @@ pub record Went (l : Listed) (r : Clocked) (w : ℕ) (b : List ℕ) (h : Listed)
   pub took : h .took ≡ cond (eqb (r .done) 1) 0 (l .took + 1)
   pub text : Wrote b (l .len)
       (cond (eqb (r .done) 1)
-      (lineBytes (record { clock = r .scalars .counts .clocks; at = l .scalars .pc; shown = word w; took = l .took + 1 })) [])
+      (lineBytes (record { clock = r .scalars .counts .clocks; at = l .scalars .pc; shown = Word w; took = l .took + 1 })) [])
       b′ (h .len)
   pub fits : h .len ≤ length b′
 
@@ -73,7 +74,7 @@ pub record Interrupted (l : Listed) (c : Scalars) (to : ℕ) (b : List ℕ) (h :
   pub scalars : h .scalars ≡ c
   pub left : h .left ≡ l .left - 1
   pub took : h .took ≡ 0
-  pub text : Wrote b (l .len) (lineBytes (record { clock = c .counts .clocks; at = l .scalars .pc; shown = irq (to - 2); took = 1 })) b′ (h .len)
+  pub text : Wrote b (l .len) (lineBytes (record { clock = c .counts .clocks; at = l .scalars .pc; shown = cond (eqb to 2) Irq0 Irq1; took = 1 })) b′ (h .len)
   pub fits : h .len ≤ length b′
 
 -- the scalars after n held clocks

@@ -3,18 +3,19 @@
 -- Assumes nothing.
 use mathlib.Core.Path.{_≡_}
 use mathlib.Core.List.{List, [], _∷_}
-use Rattle.trm_text.specs.Lines.{Line, word, irq, lineBytes, endBytes, refusedBytes}
+use Rattle.trm_text.specs.declared.inner.lines.Shown.the-variants.{Word, Irq1}
+use Rattle.trm_text.specs.Lines.{Line, lineBytes, endBytes, refusedBytes}
 
 -- each line as the paper prints it, by ASCII codes
 pub record ExampleHolds : Type 0 where
   -- `34 001 20003 33`
-  pub second : lineBytes (record { clock = 34; at = 1; shown = word 0x20003; took = 33 })
+  pub second : lineBytes (record { clock = 34; at = 1; shown = Word 0x20003; took = 33 })
       ≡ 51 ∷ 52 ∷ 32 ∷ 48 ∷ 48 ∷ 49 ∷ 32 ∷ 50 ∷ 48 ∷ 48 ∷ 48 ∷ 51 ∷ 32 ∷ 51 ∷ 51 ∷ 10 ∷ []
   -- `36 002 3BBFF 2`
-  pub third : lineBytes (record { clock = 36; at = 2; shown = word 0x3BBFF; took = 2 })
+  pub third : lineBytes (record { clock = 36; at = 2; shown = Word 0x3BBFF; took = 2 })
       ≡ 51 ∷ 54 ∷ 32 ∷ 48 ∷ 48 ∷ 50 ∷ 32 ∷ 51 ∷ 66 ∷ 66 ∷ 70 ∷ 70 ∷ 32 ∷ 50 ∷ 10 ∷ []
   -- `1000000000 FAB irq1 1`
-  pub interrupt : lineBytes (record { clock = 1000000000; at = 0xFAB; shown = irq 1; took = 1 })
+  pub interrupt : lineBytes (record { clock = 1000000000; at = 0xFAB; shown = Irq1; took = 1 })
       ≡ 49 ∷ 48 ∷ 48 ∷ 48 ∷ 48 ∷ 48 ∷ 48 ∷ 48 ∷ 48 ∷ 48 ∷ 32 ∷ 70 ∷ 65 ∷ 66 ∷ 32 ∷ 105 ∷ 114 ∷ 113 ∷ 49 ∷ 32 ∷ 49 ∷ 10 ∷ []
   -- `end 40 held 0 refills 0 writebacks 0`
   pub last : endBytes 40 0 0 0

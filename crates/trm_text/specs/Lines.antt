@@ -3,14 +3,11 @@
 -- decimal; .. an interrupt has the saved PC and `irq0` or `irq1` as its word"; "A refusal prints one line: `refused`, the number and the
 -- record's byte offset in decimal". Assumes nothing.
 --   header, lineBytes, endBytes, refusedBytes   each line
-use Prim.Native.Nat.{ℕ, _+_}
+use Prim.Native.Nat.{ℕ}
 use mathlib.Core.List.{List, [], _∷_, _++_}
+use Rattle.trm_text.specs.declared.inner.lines.Shown.{Shown}
+use Rattle.trm_text.specs.declared.inner.lines.Shown.the-variants.{Word, Irq0, Irq1}
 use Rattle.trm_text.specs.Numbers.{decimal, hex}
-
--- what a line names as its word: the word carried out, or the interrupt of line 0 or 1
-pub data Shown : Type 0 where
-  word : ℕ → Shown
-  irq : ℕ → Shown
 
 pub record Line : Type 0 where
   pub clock : ℕ
@@ -25,10 +22,11 @@ space = 32 ∷ []
 abbrev pub feed : List ℕ
 feed = 10 ∷ []
 
--- `irq`, and the number of the line
+-- the word carried out; `irq0`, `irq1`
 unfoldable pub shownBytes : Shown → List ℕ
-shownBytes (word w) = hex 5 w
-shownBytes (irq k) = 105 ∷ 114 ∷ 113 ∷ (48 + k) ∷ []
+shownBytes (Word w) = hex 5 w
+shownBytes Irq0 = 105 ∷ 114 ∷ 113 ∷ 48 ∷ []
+shownBytes Irq1 = 105 ∷ 114 ∷ 113 ∷ 49 ∷ []
 
 unfoldable pub lineBytes : Line → List ℕ
 lineBytes l =

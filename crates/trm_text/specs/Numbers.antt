@@ -3,14 +3,18 @@
 -- Assumes nothing.
 --   digits b k n   the last k digits of n in base b        decimal n   a number below 2^32, no zero in front
 --   hex k n        k capital hexadecimal digits
-use Prim.Native.Nat.{ℕ, zero, suc, _+_, _/_, _%_}
+use Prim.Native.Nat.{ℕ, zero, suc, _/_, _%_}
 use mathlib.Core.Bool.{cond}
 use mathlib.Core.List.{List, [], _∷_, _++_}
+use lib.ListN.{getD}
 use lib.Dec.{ltb}
 
 -- `0` to `9`, then `A` to `F`
+abbrev pub glyphs : List ℕ
+glyphs = 48 ∷ 49 ∷ 50 ∷ 51 ∷ 52 ∷ 53 ∷ 54 ∷ 55 ∷ 56 ∷ 57 ∷ 65 ∷ 66 ∷ 67 ∷ 68 ∷ 69 ∷ 70 ∷ []
+
 abbrev pub glyph : ℕ → ℕ
-glyph d = cond (ltb d 10) (48 + d) (55 + d)
+glyph d = getD glyphs d 0
 
 -- the highest first
 unfoldable pub digits : ℕ → ℕ → ℕ → List ℕ

@@ -44,13 +44,6 @@ pub taken-idle : (x : Lent) (i : Pins) (to : ℕ) → x .machine .scalars .runni
 unfolding interruptAt
 taken-idle x i to z e = rw (eq-eqb (x .machine .scalars .running .phase) 0 z) (sym e)
 
--- the PC of an interrupt
-pub two-at-least : (status line : ℕ) → interruptChosen status line ≢ 0 → 2 ≤ interruptChosen status line
-unfolding interruptChosen
-two-at-least status line = chosen (λ (k : ℕ). k ≢ 0 → 2 ≤ k) (isSet (bit 2 status)) (λ z. absurd (z refl))
-    (chosen (λ (k : ℕ). k ≢ 0 → 2 ≤ k) (lineRaised 0 status line) (λ _. omega arith)
-    (chosen (λ (k : ℕ). k ≢ 0 → 2 ≤ k) (lineRaised 1 status line) (λ _. omega arith) (λ z. absurd (z refl))))
-
 -- lists of the same pins
 pins-same : (m a b : ℕ) → pinsOf (replicate m a) (replicate m b) ≡ replicate m (record { line = a; input = b })
 unfolding pinsOf

@@ -30,7 +30,8 @@ use Rattle.trm_clock.specs.declared.inner.outcome.Clocked.{Clocked}
 use Rattle.trm_clock.specs.Made.{made}
 use Rattle.trm_ahead.proofs.Laws.Adds.{clock-adds}
 use Rattle.trm_ahead.proofs.Laws.Free.{clock-free}
-use Rattle.trm_text.specs.Lines.{word, irq, lineBytes}
+use Rattle.trm_text.specs.declared.inner.lines.Shown.the-variants.{Word, Irq0, Irq1}
+use Rattle.trm_text.specs.Lines.{lineBytes}
 use Rattle.trm_listing.specs.declared.inner.listed.Listed.{Listed}
 use Rattle.trm_listing.specs.Listing.{interruptAt}
 use Rattle.trm_listing.specs.Rest.{textFrom, lentOf, Able, Onward, Went, Interrupted}
@@ -123,7 +124,7 @@ module _ (p : List ℕ) (i : Pins) where
         ap (λ t. t .state .machine .scalars .counts .clocks) e ∙ clock-adds p x i .adds in
         one
         (cond (eqb (r .done) 1)
-        (lineBytes (record { clock = r .scalars .counts .clocks; at = l .scalars .pc; shown = word w; took = l .took + 1 })) [])
+        (lineBytes (record { clock = r .scalars .counts .clocks; at = l .scalars .pc; shown = Word w; took = l .took + 1 })) [])
         (cond (eqb (r .done) 1) 0 (l .took + 1))
         (λ is. rw (clock, at, done) (text-went p x i (l .took) is f z))
         h (lentOf h rs′ ca′ s′) b′
@@ -137,7 +138,7 @@ module _ (p : List ℕ) (i : Pins) where
     onward-interrupted to at z c rs′ e h b′ g =
         let clock : c .counts .clocks ≡ l .scalars .counts .clocks + 1 =
         ap (λ t. t .state .machine .scalars .counts .clocks) e ∙ clock-adds p x i .adds in
-        one (lineBytes (record { clock = c .counts .clocks; at = l .scalars .pc; shown = irq (to - 2); took = 1 })) 0
+        one (lineBytes (record { clock = c .counts .clocks; at = l .scalars .pc; shown = cond (eqb to 2) Irq0 Irq1; took = 1 })) 0
         (λ is. rw clock (text-interrupt p x i (l .took) is f to at z))
         h (lentOf h rs′ ca s) b′
         (ap (λ d. record { machine = whole d rs′ ca; store = s }) (g .scalars) ∙ ap (λ t. t .state) e)

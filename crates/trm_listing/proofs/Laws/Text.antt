@@ -16,7 +16,8 @@ use Rattle.trm_reference.specs.Interrupt.{stalled}
 use Rattle.trm_reference.specs.Trace.{Pins}
 use Rattle.trm_core.specs.Record.{Lent}
 use Rattle.trm_core.specs.Clock.{clockOf}
-use Rattle.trm_text.specs.Lines.{Line, word, irq, lineBytes, linesBytes}
+use Rattle.trm_text.specs.declared.inner.lines.Shown.the-variants.{Word, Irq0, Irq1}
+use Rattle.trm_text.specs.Lines.{Line, lineBytes, linesBytes}
 use Rattle.trm_listing.specs.Listing.{interruptAt, carriesOut, lineOf, tookAfter}
 use Rattle.trm_listing.specs.Rest.{textFrom}
 
@@ -40,7 +41,7 @@ module _ (p : List ℕ) (x : Lent) (i : Pins) (took : ℕ) (is : List Pins) wher
         (lineBytes (record {
           clock = x .machine .scalars .counts .clocks + 1;
           at = x .machine .scalars .pc;
-          shown = word (wordAt p (x .machine .scalars .pc));
+          shown = Word (wordAt p (x .machine .scalars .pc));
           took = took + 1;
         })) []
         ++ textFrom p after (cond (eqb (clockOf paperGeometry p x i .out .done) 1) 0 (took + 1)) is
@@ -54,13 +55,13 @@ module _ (p : List ℕ) (x : Lent) (i : Pins) (took : ℕ) (is : List Pins) wher
         ≡ lineBytes (record {
           clock = x .machine .scalars .counts .clocks + 1;
           at = x .machine .scalars .pc;
-          shown = irq (to - 2);
+          shown = cond (eqb to 2) Irq0 Irq1;
           took = 1;
         }) ++ textFrom p after 0 is
     unfolding textFrom lineOf tookAfter linesBytes
     text-interrupt to e z = rw (f, e, ne-eqb to 0 z) (ap (λ b. b ++ textFrom p after 0 is) (append-nil (lineBytes (record {
       clock = x .machine .scalars .counts .clocks + 1;
       at = x .machine .scalars .pc;
-      shown = irq (to - 2);
+      shown = cond (eqb to 2) Irq0 Irq1;
       took = 1;
     }))))

@@ -147,7 +147,7 @@ fn interrupts(
     requires { ⌜ Able (now program) (lentOf l (now regs) (cache (now full) (now dirty) (now block) (now words)) (now store))
         (l .took) (l .left) (record { line = line; input = input })
         × (0 < l .left) × (l .len + 32 ≤ length (now buf)) × (stalled line ≡ false)
-        × (l .scalars .running .phase ≡ 0) × (to ≡ interruptChosen (l .scalars .status) line) × (to ≢ 0) × (to ≤ 3) ⌝ }
+        × (l .scalars .running .phase ≡ 0) × (to ≡ interruptChosen (l .scalars .status) line) × (to ≢ 0) ⌝ }
     ensures { λ r. ⌜ Onward (now (program .entry)) (record { line = line; input = input })
         l (lentOf l (now (regs .entry)) (cache (now (full .entry)) (now (dirty .entry)) (now (block .entry)) (now (words .entry)))
         (now (store .entry))) (now (buf .entry))

@@ -2,9 +2,9 @@
 // Paper: "Fields: clock count at the end, address and word .., unheld clocks, the counts in decimal".
 // What they hold is in specs/Lines.antt.
 ghost use mathlib.Core.Path.{_≡_};
-ghost use Prim.Native.Nat.{_+_, _≤_, _<_};
+ghost use Prim.Native.Nat.{_+_, _≤_};
 ghost use lib.ListN.{length};
-ghost use Rattle.trm_text.specs.Lines.{header, word, irq, lineBytes, endBytes, refusedBytes};
+ghost use Rattle.trm_text.specs.Lines.{header, shownBytes, lineBytes, endBytes, refusedBytes};
 ghost use Rattle.trm_text.specs.Wrote.{Wrote};
 use crate::inner::numbers;
 
@@ -21,37 +21,38 @@ fn put_text(buf: &mut [u8], at: usize, text: &[u8]) -> usize
     at + i
 }
 
-// A word carried out.
-pub fn put_word_line(buf: &mut [u8], at: usize, clock: u64, pc: u64, w: u32, took: u64) -> usize
+// What a line names as its word: the word carried out, or the interrupt of line 0 or 1.
+pub enum Shown {
+    Word(u32),
+    Irq0,
+    Irq1,
+}
+
+fn put_shown(buf: &mut [u8], at: usize, shown: Shown) -> usize
+    requires { ⌜ at + 5 ≤ length (now buf) ⌝ }
+    ensures { λ r. ⌜ Wrote (now (buf .entry)) at (shownBytes shown) (now (buf .exit)) r × (r ≤ at + 5) ⌝ }
+{
+    match shown {
+        Shown::Word(w) => numbers::put_hex(buf, at, 5, w as u64),
+        Shown::Irq0 => put_text(buf, at, b"irq0"),
+        Shown::Irq1 => put_text(buf, at, b"irq1"),
+    }
+}
+
+// The line of a word carried out, or of an interrupt.
+pub fn put_line(buf: &mut [u8], at: usize, clock: u64, pc: u64, shown: Shown, took: u64) -> usize
     requires { ⌜ at + 32 ≤ length (now buf) ⌝ }
-    ensures { λ r. ⌜ Wrote (now (buf .entry)) at (lineBytes (record { clock = clock; at = pc; shown = word w; took = took }))
+    ensures { λ r. ⌜ Wrote (now (buf .entry)) at (lineBytes (record { clock = clock; at = pc; shown = shown; took = took }))
         (now (buf .exit)) r × (r ≤ at + 32) ⌝ }
 {
     let a = numbers::put_decimal(buf, at, clock);
     let b = numbers::put_byte(buf, a, 32);
     let c = numbers::put_hex(buf, b, 3, pc);
     let d = numbers::put_byte(buf, c, 32);
-    let e = numbers::put_hex(buf, d, 5, w as u64);
+    let e = put_shown(buf, d, shown);
     let f = numbers::put_byte(buf, e, 32);
     let g = numbers::put_decimal(buf, f, took);
     numbers::put_byte(buf, g, 10)
-}
-
-// An interrupt.
-pub fn put_interrupt_line(buf: &mut [u8], at: usize, clock: u64, pc: u64, line: u8) -> usize
-    requires { ⌜ (at + 32 ≤ length (now buf)) × (line < 8) ⌝ }
-    ensures { λ r. ⌜ Wrote (now (buf .entry)) at (lineBytes (record { clock = clock; at = pc; shown = irq line; took = 1 }))
-        (now (buf .exit)) r × (r ≤ at + 32) ⌝ }
-{
-    let a = numbers::put_decimal(buf, at, clock);
-    let b = numbers::put_byte(buf, a, 32);
-    let c = numbers::put_hex(buf, b, 3, pc);
-    let d = numbers::put_byte(buf, c, 32);
-    let e = put_text(buf, d, b"irq");
-    let f = numbers::put_byte(buf, e, 48 + line);
-    let g = numbers::put_byte(buf, f, 32);
-    let h = numbers::put_decimal(buf, g, 1);
-    numbers::put_byte(buf, h, 10)
 }
 
 pub fn put_header(buf: &mut [u8], at: usize) -> usize

@@ -17,15 +17,31 @@ pub fn put_byte(buf: &mut [u8], at: usize, b: u8) -> usize
     at + 1
 }
 
+const GLYPHS: [u8; 16] = [
+    48,
+    49,
+    50,
+    51,
+    52,
+    53,
+    54,
+    55,
+    56,
+    57,
+    65,
+    66,
+    67,
+    68,
+    69,
+    70,
+];
+
 // A digit below 16, in capitals.
 fn glyph(d: u64) -> u8
     requires { ⌜ d < 16 ⌝ }
     ensures { λ r. ⌜ r ≡ Numbers·glyph d ⌝ }
 {
-    if d < 10 {
-        return 48 + d as u8;
-    }
-    55 + d as u8
+    GLYPHS[d as usize]
 }
 
 // The last k digits of n, from the lowest on.

@@ -4,7 +4,7 @@ use native.Mathlib.Omega.{arith}
 use Prim.Native.Nat.{_≤_}
 use Rattle.trm_ahead.proofs.Laws.Here.{interrupt-here}
 use Rattle.trm_listing.proofs.Laws.Onward.{onward-interrupted}
-use Rattle.trm_listing.proofs.Laws.Gone.{good-able, taken-idle, two-at-least}
+use Rattle.trm_listing.proofs.Laws.Gone.{good-able, taken-idle}
 use borrow.Author.Needs.{needs}
 use Rattle.trm_listing.proofs.inner.clocks.interrupts.Statement.{statement}
 use Rattle.trm_listing.proofs.inner.clocks.interrupts.Tie as tie
@@ -19,9 +19,7 @@ take-interrupt-requires c κs =
     (gd .widths, gd .counts)
 
 interrupted-requires : tie.Need-interrupted-requires
-interrupted-requires c κs =
-    let e = c .before .before .before .before .before .before .pre .5 in
-    (c .before .before .before .before .before .before .pre .2, c .before .before .before .before .before .before .pre .1, rw e (two-at-least _ _ (λ z. c .before .before .before .before .before .before .pre .6 (rw e z))), c .before .before .before .before .before .before .pre .7)
+interrupted-requires c κs = (c .before .before .before .before .before .before .pre .2, c .before .before .before .before .before .before .pre .1)
 
 same-length : tie.Need-same-length
 same-length c = search needs
