@@ -2,3 +2,4 @@
 -- Nothing here need be read to know what is claimed.
 -- Assumes nothing.
 pub mod Laws
+pub mod Theorems

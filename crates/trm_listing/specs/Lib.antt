@@ -5,3 +5,4 @@ pub mod Listing
 pub mod Rest
 pub mod Loaded
 pub mod Pieces
+pub mod Claims
