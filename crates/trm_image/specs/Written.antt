@@ -3,9 +3,9 @@
 -- words. Kind 2, second, at most once: first data words .. Kind 3, any number: 9 bytes, count .. (4), line byte, input word (4)".
 -- Assumes nothing.
 --   imageBytes second I   the bytes of I, with a record of kind 2 if `second`        Meant n I   what the paper asks of I
-use Prim.Native.Nat.{ℕ, _+_, _/_, _%_, _≤_}
+use Prim.Native.Nat.{ℕ, _/_, _%_, _≤_}
 use mathlib.Core.Path.{_≡_}
-use mathlib.Core.Bool.{Bool, true, false, cond, _&&_}
+use mathlib.Core.Bool.{Bool, true, cond, _&&_}
 use mathlib.Core.List.{List, [], _∷_, _++_}
 use lib.ListN.{length}
 use lib.Dec.{leb}

@@ -2,13 +2,13 @@
 -- Idea: what is written and what is to be written is the output, after each piece.
 -- Assumes nothing.
 use Prim.Native.Nat.{ℕ}
-use mathlib.Core.Path.{_≡_, refl, sym, ap, _∙_}
+use mathlib.Core.Path.{_≡_, sym, ap, _∙_}
 use mathlib.Core.Bool.{true}
 use mathlib.Core.List.{List, [], _++_, append-assoc, append-nil}
 use lib.ListN.{take}
-use Rattle.trm_listing.specs.declared.listing.Listing.{Listing}
+use Rattle.trm_listing.specs.declared.inner.pieces.Listing.{Listing}
 use Rattle.trm_listing.specs.Listing.{outputOf}
-use Rattle.trm_listing.specs.Pieces.{restOf, StartHolds, PieceHolds}
+use Rattle.trm_listing.specs.Pieces.{restOf}
 use Rattle.trm_listing.specs.Claims.{Pieces, first, next, PiecesAreOutput, Claims}
 
 so-far : (s written : List ℕ) (l : Listing) (p st : List ℕ) → Pieces s written l p st → written ++ restOf s p st l ≡ outputOf s

@@ -6,7 +6,7 @@ use mathlib.Core.Path.{_≡_}
 use mathlib.Core.Bool.{true}
 use mathlib.Core.List.{List, _++_}
 use lib.ListN.{take}
-use Rattle.trm_listing.specs.declared.listing.Listing.{Listing}
+use Rattle.trm_listing.specs.declared.inner.pieces.Listing.{Listing}
 use Rattle.trm_listing.specs.Listing.{outputOf}
 use Rattle.trm_listing.specs.Pieces.{StartHolds, PieceHolds}
 

@@ -5,7 +5,7 @@
 --   lineOf p x i took   the line of one clock, if it has one        linesFrom   those of all clocks from x on
 --   linesOf I           the lines of an image                       outputOf s  what is written for the bytes s
 use Prim.Native.Nat.{ℕ, _+_, _-_}
-use mathlib.Core.Bool.{Bool, cond, not, _&&_, _||_}
+use mathlib.Core.Bool.{Bool, cond, not, _||_}
 use mathlib.Core.List.{List, [], _∷_, _++_}
 use lib.ListN.{length, replicate}
 use lib.Dec.{eqb}

@@ -12,8 +12,8 @@ use Rattle.trm_text.specs.Lines.{endBytes}
 use Rattle.trm_text.specs.Wrote.{Wrote}
 use Rattle.trm_listing.specs.declared.inner.runs.Place.{Place}
 use Rattle.trm_listing.specs.declared.inner.finish.Ended.{Ended}
-use Rattle.trm_listing.specs.declared.listing.Listing.{Listing}
-use Rattle.trm_listing.specs.Listing.{outputOf, endLine}
+use Rattle.trm_listing.specs.declared.inner.pieces.Listing.{Listing}
+use Rattle.trm_listing.specs.Listing.{outputOf}
 use Rattle.trm_listing.specs.Rest.{textFrom, pinsLeft, Stands}
 
 abbrev pub lentBy : Listing → List ℕ → Lent

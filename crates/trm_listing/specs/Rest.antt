@@ -74,7 +74,13 @@ pub record Interrupted (l : Listed) (c : Scalars) (to : ℕ) (b : List ℕ) (h :
   pub scalars : h .scalars ≡ c
   pub left : h .left ≡ l .left - 1
   pub took : h .took ≡ 0
-  pub text : Wrote b (l .len) (lineBytes (record { clock = c .counts .clocks; at = l .scalars .pc; shown = cond (eqb to 2) Irq0 Irq1; took = 1 })) b′ (h .len)
+  pub text : Wrote b (l .len) (lineBytes (record {
+    clock = c .counts .clocks;
+    at = l .scalars .pc;
+    shown = cond
+        (eqb to 2) Irq0 Irq1;
+    took = 1;
+  })) b′ (h .len)
   pub fits : h .len ≤ length b′
 
 -- the scalars after n held clocks

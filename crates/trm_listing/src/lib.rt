@@ -1,5 +1,4 @@
 // The listing of an image: which lines it has, and their bytes, piece by piece.
 // Paper: "Images and the listing program".
-// `listing`: the calls; `inner`: the clocks of one run and their lines.
+// Its functions stand in `inner`: a listing is begun and goes on by what it asks for itself.
 pub mod inner;
-pub mod listing;

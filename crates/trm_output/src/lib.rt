@@ -4,7 +4,7 @@
 ghost use mathlib.Core.Path.{_≡_};
 ghost use Prim.Native.Nat.{_≤_};
 ghost use lib.ListN.{length};
-use trm_listing::listing;
+use trm_listing::inner::pieces;
 
 // Piece after piece, with what is lent: the program's words, the store and the buffer.
 fn write_pieces(
@@ -16,13 +16,13 @@ fn write_pieces(
 ) -> bool
     requires { ⌜ (length (now program) ≡ 4096) × (length (now store) ≡ 2048) × (128 ≤ length (now buf)) ⌝ }
 {
-    let mut l = listing::first_piece(image, program, store, buf);
+    let mut l = pieces::first_piece(image, program, store, buf);
     let mut written = io::write_all(fd, &buf[..l.len]);
     while !l.over {
         if !written {
             return false;
         }
-        l = listing::next_piece(l, image, &program[..l.words], store, buf);
+        l = pieces::next_piece(l, image, &program[..l.words], store, buf);
         written = io::write_all(fd, &buf[..l.len]);
     }
     written

@@ -2,9 +2,9 @@
 -- Paper: the example of "Images and the listing program". The value is in proofs/Theorems.antt.
 -- Assumes nothing.
 use mathlib.Core.Path.{_≡_}
-use mathlib.Core.List.{List, [], _∷_}
+use mathlib.Core.List.{[], _∷_}
 use Rattle.trm_text.specs.declared.inner.lines.Shown.the-variants.{Word, Irq1}
-use Rattle.trm_text.specs.Lines.{Line, lineBytes, endBytes, refusedBytes}
+use Rattle.trm_text.specs.Lines.{lineBytes, endBytes, refusedBytes}
 
 -- each line as the paper prints it, by ASCII codes
 pub record ExampleHolds : Type 0 where

@@ -7,7 +7,7 @@ ghost use Prim.Native.Nat.{_+_, _≤_, _<_, _%_};
 ghost use lib.ListN.{length};
 ghost use lib.Dec.{eqb, ltb};
 ghost use Rattle.trm_core.specs.Refusals.{allAtMost};
-ghost use Rattle.trm_image.specs.Records.{kindAt, wordsAt};
+ghost use Rattle.trm_image.specs.Records.{wordsAt};
 ghost use Rattle.trm_image.specs.Numbers.{numberOf};
 ghost use Rattle.trm_image.specs.Refused.{cutShort, lengthWrong, countWrong, inOrder, wordWrong, lineWrong, faultAt};
 use crate::fault::Fault;

@@ -1,12 +1,8 @@
 -- The proof of trm_images::main.
-use native.Mathlib.Omega.{arith}
 use Prim.Native.Nat.{_-_, _≤_}
 use borrow.Author.Needs.{needs}
 use Rattle.trm_images.proofs.main.Statement.{statement}
 use Rattle.trm_images.proofs.main.Tie as tie
-use Rattle.trm_images.proofs.main.Reads as reads
-use Rattle.trm_images.proofs.main.Lts as lts
-use Rattle.trm_images.proofs.one.Reads as one-reads
 
 abbrev Inv-loop : tie.InvT-loop
 Inv-loop i₀ i = i ≤ 1000

@@ -3,20 +3,19 @@
 -- Assumes nothing.
 use Prim.Native.Nat.{ℕ, _+_, _*_, _-_, _≤_, _<_}
 use mathlib.Core.Path.{_≡_, refl, sym, ap, _∙_, subst}
-use mathlib.Core.List.{List, [], _∷_, _++_}
+use mathlib.Core.List.{List, _++_}
 use native.Mathlib.Omega.{arith}
 use lib.ListN.{length, take, drop, replicate}
 use Rattle.trm_cache.specs.Cache.{Cache}
 use Rattle.trm_core.specs.Record.{Lent}
-use Rattle.trm_reference.specs.Trace.{Pins}
 use Rattle.trm_image.specs.Records.{begins}
 use Rattle.trm_image.specs.Refused.{countAt, lineAt, inputAt}
-use Rattle.trm_image.specs.Meaning.{runAt, runsIn}
-use Rattle.trm_image.proofs.Laws.Runs.{Runs, Next, runs-next, runs-end}
+use Rattle.trm_image.specs.Meaning.{runsIn}
+use Rattle.trm_image.proofs.Laws.Runs.{Next, runs-next, runs-end}
 use Rattle.trm_listing.specs.declared.inner.listed.Listed.{Listed}
 use Rattle.trm_listing.specs.declared.inner.runs.Place.{Place}
 use Rattle.trm_listing.specs.Listing.{pinsOfRuns, endLine}
-use Rattle.trm_listing.specs.Rest.{textFrom, lentOf, Able, Onward, pinsAt, pinsLeft, Stands, Along}
+use Rattle.trm_listing.specs.Rest.{textFrom, lentOf, Onward, pinsAt, pinsLeft, Stands, Along}
 
 module _ (s p : List ℕ) where
   pub along-then : {q q′ q″ : Place} {x x′ x″ : Lent} {b b′ b″ : List ℕ} → Along s p q x b q′ x′ b′ → Along s p q′ x′ b′ q″ x″ b″
@@ -84,7 +83,8 @@ module _ (s p : List ℕ) where
   pub along-next : (q q′ : Place) (rs : List ℕ) (ca : Cache) (st b : List ℕ) → q′ ≡ nextPlace q
       → Stands s p q (lentOf (q .listed) rs ca st) b → q .listed .left ≡ 0 → q .at < length s
       → Along s p q (lentOf (q .listed) rs ca st) b q′ (lentOf (q′ .listed) rs ca st) b
-  along-next q q′ rs ca st b e h none more = subst (λ y. Along s p q (lentOf (q .listed) rs ca st) b y (lentOf (y .listed) rs ca st) b) (sym e)
+  along-next q q′ rs ca st b e h none more = subst (λ y. Along s p q (lentOf (q .listed) rs ca st) b y (lentOf
+      (y .listed) rs ca st) b) (sym e)
       (along-next-place q (lentOf (q .listed) rs ca st) b h none more)
 
   pub along-none : (q : Place) (x : Lent) (b : List ℕ) → Stands s p q x b → Along s p q x b q x b

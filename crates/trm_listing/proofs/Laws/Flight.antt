@@ -2,7 +2,7 @@
 -- Idea: a clock that goes on leaves one of the phases 1 to 5.
 -- Assumes nothing.
 use Prim.Native.Nat.{ℕ, _+_}
-use mathlib.Core.Path.{_≡_, refl, sym, ap, _∙_, subst}
+use mathlib.Core.Path.{_≡_}
 use mathlib.Core.Logic.{_≢_}
 use mathlib.Core.Bool.{Bool, true, false, cond}
 use mathlib.Core.List.{List}
@@ -31,7 +31,8 @@ module _ (c : Scalars) (ca : Cache) (s : List ℕ) where
   written-busy : (off : Bool) (l : ℕ) → Busy (written paperGeometry off l c ca s)
   unfolding written
   written-busy off l = chosen Busy off
-      (chosen (λ (r : Running). r .phase ≢ 0) (eqb (countDirty paperGeometry ca) 0) (λ z. absurd (omega (arith, z))) (λ z. absurd (omega (arith, z))))
+      (chosen (λ (r : Running). r .phase ≢ 0) (eqb (countDirty paperGeometry ca) 0) (λ z. absurd (omega (arith, z))) (λ z. absurd
+      (omega (arith, z))))
       (λ z. absurd (omega (arith, z)))
 
   filling-busy : (b l k : ℕ) → Busy (filling paperGeometry b l k c ca s)
@@ -60,7 +61,8 @@ unfolding worked finish
 worked-busy w n m s i z = go (isLast paperGeometry w n (m .scalars .running) (visibleOf m) (cacheOf m))
   where
     either : Bool → After Lent Answer
-    either t = cond t (finish paperGeometry w n m s i) (quiet (m .regs) (advance paperGeometry w n (m .scalars) (visibleOf m) (cacheOf m) s))
+    either t = cond t (finish paperGeometry w n m s i) (quiet (m .regs) (advance paperGeometry w n (m .scalars) (visibleOf m)
+        (cacheOf m) s))
 
     go : (t : Bool) → either t .out .done ≡ 0 → either t .state .machine .scalars .running .phase ≢ 0
     go true d = absurd (omega (arith, answer-done w (visibleOf m) n i, d))

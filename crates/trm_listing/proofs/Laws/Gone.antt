@@ -1,7 +1,7 @@
 -- Clocks of a word in flight that carry nothing out: they have no line, and the word goes on.
 -- Idea: a run of so many clocks with the same pins, of which none carried a word out.
 -- Assumes nothing.
-use Prim.Native.Nat.{ℕ, zero, suc, _+_, _-_, _≤_, _<_}
+use Prim.Native.Nat.{ℕ, zero, suc, _+_, _-_, _≤_}
 use mathlib.Core.Path.{_≡_, refl, sym, ap, _∙_, subst}
 use mathlib.Core.Logic.{_≢_}
 use mathlib.Core.Bool.{true, false, cond}
@@ -9,14 +9,12 @@ use mathlib.Core.List.{List, [], _∷_, _++_, append-assoc}
 use native.Mathlib.Omega.{arith}
 use native.Mathlib.Nat.{le-of-suc-le-suc}
 use lib.ListN.{length, take, replicate, length-replicate}
-use lib.Dec.{eqb, leb}
+use lib.Dec.{eqb}
 use borrow.Author.Tests.{eq-eqb, ne-eqb, le-leb}
-use Rattle.trm_laws.proofs.Tests.{_&t_, chosen}
-use Rattle.trm_word.specs.Fields.{bit}
-use Rattle.trm_word.specs.Condition.{isSet}
+use Rattle.trm_laws.proofs.Tests.{_&t_}
 use Rattle.trm_reference.specs.Geometry.{paperGeometry}
 use Rattle.trm_reference.specs.Visible.{wordAt}
-use Rattle.trm_reference.specs.Interrupt.{stalled, lineRaised, interruptChosen}
+use Rattle.trm_reference.specs.Interrupt.{stalled, interruptChosen}
 use Rattle.trm_reference.specs.Trace.{Pins, pinsOf, clocks, endOf, outsOf, finishedIn}
 use Rattle.trm_cache.specs.Cache.{Cache}
 use Rattle.trm_core.specs.Record.{Lent, whole}
@@ -25,7 +23,7 @@ use Rattle.trm_core.specs.Refusals.{allAtMost}
 use Rattle.trm_core.proofs.Laws.Rows.{legal-of}
 use Rattle.trm_plan.specs.Plan.{Good}
 use Rattle.trm_plan.proofs.Laws.Facts.{good-at}
-use Rattle.trm_ahead.specs.Reached.{Point, point, hist, Feed, Reached, Under, Quietly}
+use Rattle.trm_ahead.specs.Reached.{Point, hist, Feed, Reached, Under, Quietly}
 use Rattle.trm_ahead.proofs.Laws.Reached.{reached-none}
 use Rattle.trm_listing.specs.declared.inner.listed.Listed.{Listed}
 use Rattle.trm_listing.specs.Listing.{interruptAt}

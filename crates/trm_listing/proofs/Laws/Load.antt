@@ -8,7 +8,6 @@ use mathlib.Core.List.{List, [], _++_}
 use native.Mathlib.Omega.{arith}
 use lib.ListN.{length, replicate, length-append, length-replicate}
 use Rattle.trm_image.specs.Records.{lengthAt, kindAt, wordsAt}
-use Rattle.trm_image.specs.Refused.{imageFault}
 use Rattle.trm_image.specs.Meaning.{imageOf}
 use Rattle.trm_image.proofs.Laws.Accepted.{Head, Second, Third, accepted-head, accepted-second, accepted-third, kind-inside, length-wordsAt}
 use Rattle.trm_listing.specs.Listing.{firstStore}
@@ -44,7 +43,8 @@ module _ (s st : List ℕ) (h : Loadable s st) where
 
     module _ (k : kindAt s at ≡ 2) where
       pub second : Second 2048 s
-      second = accepted-second 2048 s (h .accepted) (sym (ap (kindAt s) e) ∙ k) (kind-inside s (6 + lengthAt s 0) (sym (ap (kindAt s) e) ∙ k))
+      second = accepted-second 2048 s (h .accepted) (sym (ap (kindAt s) e) ∙ k) (kind-inside s (6 + lengthAt s 0) (sym (ap
+          (kindAt s) e) ∙ k))
 
       pub second-fits : lengthAt s at / 4 ≤ 2048
       second-fits = rw e (second .fits)
@@ -55,7 +55,8 @@ module _ (s st : List ℕ) (h : Loadable s st) where
           let n : length (wordsAt s (at + 6) (len / 4)) ≡ len / 4 = length-wordsAt s (at + 6) (len / 4) in
           let small : len / 4 ≤ 2048 = subst (λ y. y / 4 ≤ 2048) (sym f) second-fits in
           record {
-            store = q ∙ first-is (imageOf s .first) (wordsAt s (at + 6) (len / 4)) (len / 4) (length st) (rw (f, e) (second .first)) n (h .long);
+            store = q ∙ first-is (imageOf s .first) (wordsAt s (at + 6) (len / 4)) (len / 4) (length st) (rw (f, e)
+                (second .first)) n (h .long);
             long = ap length q ∙ words-long (wordsAt s (at + 6) (len / 4)) (len / 4) (length st) n small (h .long);
             runs = rw (f, e) (second .runs);
             list = rw (f, e) (second .list);

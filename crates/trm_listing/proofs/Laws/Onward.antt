@@ -2,9 +2,9 @@
 -- Idea: what is in the buffer and what is to be written is always the same text.
 -- Assumes nothing.
 use Prim.Native.Nat.{ℕ, suc, _+_, _-_, _≤_, _<_}
-use mathlib.Core.Path.{_≡_, refl, sym, ap, _∙_, subst}
+use mathlib.Core.Path.{_≡_, refl, sym, ap, _∙_}
 use mathlib.Core.Logic.{_≢_}
-use mathlib.Core.Bool.{Bool, true, false, cond}
+use mathlib.Core.Bool.{true, false, cond}
 use mathlib.Core.List.{List, [], _∷_, _++_, append-assoc}
 use native.Mathlib.Omega.{arith}
 use lib.ListN.{length, take, replicate}
@@ -97,7 +97,8 @@ module _ (p : List ℕ) (i : Pins) where
     -- the text of one clock, T being what is written for it and t the clocks of the word in flight after it
     one : (T : List ℕ) (t : ℕ) → ((is : List Pins) → textFrom p x (l .took) (i ∷ is)
         ≡ T ++ textFrom p (clockOf paperGeometry p x i .state) t is)
-        → (h : Listed) (y : Lent) (b′ : List ℕ) → y ≡ clockOf paperGeometry p x i .state → h .left ≡ l .left - 1 → h .took ≡ t → t ≤ l .took + 1
+        → (h : Listed) (y : Lent) (b′ : List ℕ) → y ≡ clockOf paperGeometry p x i .state → h .left ≡ l .left - 1 → h .took ≡ t → t ≤
+        l .took + 1
         → take (h .len) b′ ≡ take (l .len) b ++ T → length b′ ≡ length b → h .len ≤ length b′ → Onward p i l x b h y b′
     one T t go h y b′ e left took le text long fits = record {
       able = rw (e, left, took) (able-clock x (l .took) (l .left) t a some le);

@@ -2,7 +2,7 @@
 -- Idea: what was to be written is in the buffer, or still to be written.
 -- Assumes nothing.
 use Prim.Native.Nat.{ℕ, _+_, _≤_, _<_}
-use mathlib.Core.Path.{_≡_, refl, sym, ap, _∙_, subst}
+use mathlib.Core.Path.{_≡_, refl, sym, ap, _∙_}
 use mathlib.Core.Logic.{_≢_}
 use mathlib.Core.Bool.{Bool, true, false, cond}
 use mathlib.Core.List.{List, [], _++_, append-nil}
@@ -12,7 +12,6 @@ use lib.Dec.{eqb}
 use borrow.Author.Tests.{eqb-true, eqb-false}
 use Rattle.trm_cache.specs.Cache.{Cache}
 use Rattle.trm_core.specs.Record.{Lent}
-use Rattle.trm_text.specs.Wrote.{Wrote}
 use Rattle.trm_listing.specs.declared.inner.finish.Ended.{Ended}
 use Rattle.trm_listing.specs.declared.inner.runs.Place.{Place}
 use Rattle.trm_listing.specs.Listing.{endLine}
@@ -47,7 +46,8 @@ module _ (s p : List ℕ) (q : Place) (x : Lent) (b : List ℕ) (q′ : Place) (
   pub piece-text : q .listed .len ≡ 0 → (q′ .listed .left ≡ 0 → length s ≤ q′ .at)
       → textFrom p x (q .listed .took) (pinsLeft s q) ≡ take (e .len) b″ ++ cond (e .over) [] left
   unfolding endLine
-  piece-text none over = sym (go (e .over) refl (h .text .text) ∙ a .text ∙ ap (λ k. take k b ++ textFrom p x (q .listed .took) (pinsLeft s q)) none)
+  piece-text none over = sym (go (e .over) refl (h .text .text) ∙ a .text ∙ ap (λ k. take k b ++ textFrom p x (q .listed .took)
+      (pinsLeft s q)) none)
     where
       go : (t : Bool) → e .over ≡ t → take (e .len) b″ ≡ take (q′ .listed .len) b′ ++ cond t (endLine x′) []
           → take (e .len) b″ ++ cond t [] left ≡ take (q′ .listed .len) b′ ++ left

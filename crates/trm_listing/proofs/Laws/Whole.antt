@@ -1,39 +1,39 @@
 -- The whole output: the first piece and what is still to be written then.
 -- Idea: what is to be written clock by clock is all lines and then the last one.
 -- Assumes nothing.
-use Prim.Native.Nat.{ℕ, _+_, _*_, _-_, _/_, _≤_}
+use Prim.Native.Nat.{ℕ, _-_, _/_, _≤_}
 use mathlib.Core.Path.{_≡_, refl, sym, ap, _∙_, subst}
-use mathlib.Core.Bool.{true, false, cond}
+use mathlib.Core.Bool.{false}
 use mathlib.Core.List.{List, [], _∷_, _++_, append-assoc, append-nil}
 use native.Mathlib.Omega.{arith}
 use lib.ListN.{length, take, drop, replicate, length-append, length-replicate}
 use lib.Seq.{take-at}
 use lib.Dec.{eqb}
-use Rattle.trm_word.specs.Address.{storeLengthOk}
 use Rattle.trm_reference.specs.Geometry.{paperGeometry}
 use Rattle.trm_reference.specs.Trace.{Pins, clocks, endOf}
 use Rattle.trm_core.specs.Record as core
 use Rattle.trm_core.specs.Record.{Lent, resetOf}
 use Rattle.trm_core.specs.Clock.{clockOf}
 use Rattle.trm_core.specs.Claims.{Kept}
-use Rattle.trm_core.specs.Refusals.{resetRefusal, programOk}
+use Rattle.trm_core.specs.Refusals.{resetRefusal}
 use Rattle.trm_plan.proofs.Laws.Facts.{paper-ok}
 use Rattle.trm_agreement.proofs.Laws.Demand.{reset-kept}
 use Rattle.trm_image.specs.Records.{lengthAt, wordsAt, begins}
 use Rattle.trm_image.specs.Refused.{imageFault}
 use Rattle.trm_image.specs.Meaning.{Image, imageOf, runsIn}
-use Rattle.trm_image.proofs.Laws.Accepted.{Runs, Head, accepted-head, length-wordsAt}
+use Rattle.trm_image.proofs.Laws.Accepted.{Head, accepted-head, length-wordsAt}
 use Rattle.trm_text.specs.Lines.{Line, lineBytes, linesBytes, header, refusedBytes}
 use Rattle.trm_text.specs.Wrote.{Wrote}
-use Rattle.trm_listing.specs.Listing.{lineOf, tookAfter, linesFrom, pinsOfRuns, firstStore, startOf, linesOf, finalOf, endLine}
+use Rattle.trm_listing.specs.Listing.{lineOf, tookAfter, linesFrom, pinsOfRuns, startOf, linesOf, finalOf, endLine}
 use Rattle.trm_listing.specs.Listing.{listingOf, outputOf}
-use Rattle.trm_listing.specs.Rest.{textFrom, pinsLeft, Stands}
+use Rattle.trm_listing.specs.Rest.{textFrom, Stands}
 use Rattle.trm_listing.specs.Loaded.{Loaded}
 
 lines-append : (ls ms : List Line) → linesBytes (ls ++ ms) ≡ linesBytes ls ++ linesBytes ms
 unfolding linesBytes
 lines-append [] ms = refl
-lines-append (l ∷ ls) ms = ap (λ t. lineBytes l ++ t) (lines-append ls ms) ∙ sym (append-assoc (lineBytes l) (linesBytes ls) (linesBytes ms))
+lines-append (l ∷ ls) ms = ap (λ t. lineBytes l ++ t) (lines-append ls ms) ∙ sym (append-assoc (lineBytes l) (linesBytes ls)
+    (linesBytes ms))
 
 text-all : (p : List ℕ) (is : List Pins) (x : Lent) (took : ℕ)
     → textFrom p x took is ≡ linesBytes (linesFrom p x took is) ++ endLine (endOf x (clocks (clockOf paperGeometry p) x is))
@@ -97,7 +97,8 @@ module _ (s : List ℕ) where
           let h : Head 2048 s = accepted-head 2048 s ok in
           let legal : resetRefusal st ≡ 0 = rw (long, h .store) in
           let k : Kept paperGeometry p (record { machine = m; store = st }) =
-          subst (λ y. Kept paperGeometry p (record { machine = y; store = st })) (sym reset) (reset-kept paperGeometry p st paper-ok legal) in
+          subst (λ y. Kept paperGeometry p (record { machine = y; store = st })) (sym reset)
+          (reset-kept paperGeometry p st paper-ok legal) in
           let none : m .scalars .counts .clocks ≡ 0 = ap (λ (y : core.Machine). y .scalars .counts .clocks) reset ∙ reset-clocks st in
           record {
             able = record {

@@ -1,14 +1,14 @@
 -- Each piece leaves less to write.
 -- Idea: a piece holds some bytes of what was left, or it is the last.
 -- Assumes nothing.
-use Prim.Native.Nat.{ℕ, _+_, _≤_, _<_}
+use Prim.Native.Nat.{ℕ, _+_, _<_}
 use mathlib.Core.Path.{_≡_, refl, sym, ap, _∙_, subst}
 use mathlib.Core.Bool.{Bool, true, false, cond}
-use mathlib.Core.List.{List, _++_}
+use mathlib.Core.List.{List}
 use native.Mathlib.Omega.{arith}
 use lib.ListN.{length, take, length-append}
 use lib.Seq.{length-take-le}
-use Rattle.trm_listing.specs.declared.listing.Listing.{Listing}
+use Rattle.trm_listing.specs.declared.inner.pieces.Listing.{Listing}
 use Rattle.trm_listing.specs.Pieces.{restOf, PieceHolds}
 
 -- the bytes that are left, and one more while the listing is not over

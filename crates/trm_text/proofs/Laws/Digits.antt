@@ -5,7 +5,7 @@ use Prim.Native.Nat.{ℕ, zero, suc, _+_, _-_, _/_, _%_, _≤_, _<_}
 use mathlib.Core.Path.{_≡_, refl, sym, ap, _∙_, subst}
 use mathlib.Core.List.{List, [], _∷_, _++_, append-nil, append-assoc}
 use native.Mathlib.Omega.{arith}
-use lib.ListN.{length, getD, set, take, drop, length-set, length-append, take-append-drop}
+use lib.ListN.{length, set, take, drop, length-set, length-append, take-append-drop}
 use lib.Seq.{slice, slice-empty, slice-cons, getD-set-same, drop-set-lt, take-set-lt, take-set-le, take-take}
 use Rattle.trm_text.specs.Numbers.{glyph, digits}
 use Rattle.trm_text.specs.Wrote.{Wrote}

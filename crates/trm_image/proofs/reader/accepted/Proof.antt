@@ -2,8 +2,6 @@
 use borrow.Author.Needs.{needs}
 use Rattle.trm_image.proofs.reader.accepted.Statement.{statement}
 use Rattle.trm_image.proofs.reader.accepted.Tie as tie
-use Rattle.trm_image.proofs.reader.accepted.Reads as reads
-use Rattle.trm_image.proofs.reader.accepted.Lts as lts
 
 enum-told : tie.Need-enum-told
 enum-told c = search needs

@@ -1,7 +1,5 @@
 -- The proof of trm_image::reader::payload.
 use Rattle.trm_image.specs.Records.{payloadAt, lengthAt}
-use mathlib.Core.Path.{_≡_}
-use Prim.Native.Nat.{_+_, _-_}
 use Rattle.trm_image.proofs.Laws.Parts.{beyond, cut, part-of}
 use Rattle.trm_image.specs.Records.{payloadAt}
 use native.Mathlib.Omega.{arith}
@@ -9,9 +7,6 @@ use Rattle.trm_image.proofs.Laws.Parts.{beyond, cut}
 use borrow.Author.Needs.{needs}
 use Rattle.trm_image.proofs.reader.payload.Statement.{statement}
 use Rattle.trm_image.proofs.reader.payload.Tie as tie
-use Rattle.trm_image.proofs.reader.payload.Reads as reads
-use Rattle.trm_image.proofs.reader.payload.Lts as lts
-use Rattle.trm_image.proofs.inner.bytes.word_at.Reads as word-at-reads
 
 sub-result : tie.Need-sub-result
 sub-result c = search needs
@@ -24,7 +19,9 @@ part-result-end c = search needs
 
 returns : tie.Need-returns
 unfolding payloadAt
-returns c = beyond (c .before .before .before .args .image .now) (c .before .before .before .args .at) (lengthAt (c .before .before .before .args .image .now) (c .before .before .before .args .at)) (omega (arith, c .before .if1 .taken))
+returns c =
+    beyond (c .before .before .before .args .image .now) (c .before .before .before .args .at) (lengthAt (c .before .before .before
+    .args .image .now) (c .before .before .before .args .at)) (omega (arith, c .before .if1 .taken))
 
 sub-if2 : tie.Need-sub-if2
 sub-if2 c = search needs
@@ -40,7 +37,14 @@ part-result-end-2 c = search needs
 
 returns-2 : tie.Need-returns-2
 unfolding payloadAt
-returns-2 c = beyond (c .before .before .before .before .args .image .now) (c .before .before .before .before .args .at) (lengthAt (c .before .before .before .before .args .image .now) (c .before .before .before .before .args .at)) (omega (arith, c .before .before .if1 .left, c .before .if2 .taken))
+returns-2 c =
+    beyond (c .before .before .before .before .args .image .now) (c .before .before .before .before .args .at) (lengthAt (c .before
+    .before .before .before .args .image .now) (c .before .before .before .before .args .at)) (omega (
+      arith,
+      c .before .before .if1
+          .left,
+      c .before .if2 .taken,
+    ))
 
 add-start : tie.Need-add-start
 add-start c = search needs
@@ -65,7 +69,9 @@ part-result-end-3 c = search needs
 
 returns-3 : tie.Need-returns-3
 unfolding payloadAt
-returns-3 c = rw (← c .before .before .word-at .ensures) (cut (c .before .before .before .before .before .before .args .image .now) (c .before .before .before .before .before .before .args .at) _ (c .before .if3 .taken))
+returns-3 c =
+    rw (← c .before .before .word-at .ensures) (cut (c .before .before .before .before .before .before .args .image .now) (c .before
+    .before .before .before .before .before .args .at) _ (c .before .if3 .taken))
 
 add-result : tie.Need-add-result
 add-result c = search needs
@@ -81,7 +87,9 @@ part-result-end-4 c = search needs
 
 returns-4 : tie.Need-returns-4
 unfolding payloadAt
-returns-4 c = rw (← c .before .before .word-at .ensures) (part-of (c .before .before .before .before .before .before .args .image .now) (c .before .before .before .before .before .before .args .at) _)
+returns-4 c =
+    rw (← c .before .before .word-at .ensures) (part-of (c .before .before .before .before .before .before .args .image .now) (c
+    .before .before .before .before .before .before .args .at) _)
 
 pub payload-spec : {M : Type 1} → statement M
 payload-spec =

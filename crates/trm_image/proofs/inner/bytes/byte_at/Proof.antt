@@ -1,12 +1,9 @@
 -- The proof of trm_image::inner::bytes::byte_at.
 use lib.ListN.{List·getD-eq-default}
-use native.Mathlib.Omega.{arith}
 use mathlib.Core.Path.{sym}
 use borrow.Author.Needs.{needs}
 use Rattle.trm_image.proofs.inner.bytes.byte_at.Statement.{statement}
 use Rattle.trm_image.proofs.inner.bytes.byte_at.Tie as tie
-use Rattle.trm_image.proofs.inner.bytes.byte_at.Reads as reads
-use Rattle.trm_image.proofs.inner.bytes.byte_at.Lts as lts
 
 shared-slice-read-result : tie.Need-shared-slice-read-result
 shared-slice-read-result c = search needs

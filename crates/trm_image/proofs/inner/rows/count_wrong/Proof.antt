@@ -1,13 +1,9 @@
 -- The proof of trm_image::inner::rows::count_wrong.
 use Rattle.trm_image.specs.Refused.{countWrong}
-use borrow.Author.Tests.{eq-eqb, ne-eqb, lt-ltb, le-ltb}
+use borrow.Author.Tests.{eq-eqb, ne-eqb}
 use borrow.Author.Needs.{needs}
 use Rattle.trm_image.proofs.inner.rows.count_wrong.Statement.{statement}
 use Rattle.trm_image.proofs.inner.rows.count_wrong.Tie as tie
-use Rattle.trm_image.proofs.inner.rows.count_wrong.Reads as reads
-use Rattle.trm_image.proofs.inner.rows.count_wrong.Lts as lts
-use Rattle.trm_image.proofs.inner.bytes.half_at.Reads as half-at-reads
-use Rattle.trm_image.proofs.inner.bytes.word_at.Reads as word-at-reads
 
 add-half-at : tie.Need-add-half-at
 add-half-at c = search needs
@@ -27,11 +23,23 @@ word-at-requires c κs = search needs
 
 returns-2 : tie.Need-returns-2
 unfolding countWrong
-returns-2 c = rw (← c .before .before .before .half-at .ensures, eq-eqb _ 3 (c .before .before .if1 .left), ← c .before .word-at .ensures, eq-eqb _ 0 (c .if2 .taken))
+returns-2 c =
+    rw (
+      ← c .before .before .before .half-at .ensures,
+      eq-eqb _ 3 (c .before .before .if1 .left),
+      ← c .before .word-at .ensures,
+      eq-eqb _ 0 (c .if2 .taken),
+    )
 
 returns-3 : tie.Need-returns-3
 unfolding countWrong
-returns-3 c = rw (← c .before .before .before .half-at .ensures, eq-eqb _ 3 (c .before .before .if1 .left), ← c .before .word-at .ensures, ne-eqb _ 0 (c .if2 .left))
+returns-3 c =
+    rw (
+      ← c .before .before .before .half-at .ensures,
+      eq-eqb _ 3 (c .before .before .if1 .left),
+      ← c .before .word-at .ensures,
+      ne-eqb _ 0 (c .if2 .left),
+    )
 
 pub count-wrong-spec : {M : Type 1} → statement M
 count-wrong-spec =

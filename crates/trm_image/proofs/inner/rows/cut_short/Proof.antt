@@ -4,9 +4,6 @@ use borrow.Author.Tests.{lt-ltb, le-ltb}
 use borrow.Author.Needs.{needs}
 use Rattle.trm_image.proofs.inner.rows.cut_short.Statement.{statement}
 use Rattle.trm_image.proofs.inner.rows.cut_short.Tie as tie
-use Rattle.trm_image.proofs.inner.rows.cut_short.Reads as reads
-use Rattle.trm_image.proofs.inner.rows.cut_short.Lts as lts
-use Rattle.trm_image.proofs.inner.bytes.word_at.Reads as word-at-reads
 
 sub-if1 : tie.Need-sub-if1
 sub-if1 c = search needs

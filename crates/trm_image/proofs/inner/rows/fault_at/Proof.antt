@@ -1,19 +1,8 @@
 -- The proof of trm_image::inner::rows::fault_at.
 use Rattle.trm_image.specs.Refused.{faultAt}
-use mathlib.Core.Path.{sym, _∙_}
 use borrow.Author.Needs.{needs}
 use Rattle.trm_image.proofs.inner.rows.fault_at.Statement.{statement}
 use Rattle.trm_image.proofs.inner.rows.fault_at.Tie as tie
-use Rattle.trm_image.proofs.inner.rows.fault_at.Reads as reads
-use Rattle.trm_image.proofs.inner.rows.fault_at.Lts as lts
-use Rattle.trm_image.proofs.inner.bytes.half_at.Reads as half-at-reads
-use Rattle.trm_image.proofs.inner.bytes.word_at.Reads as word-at-reads
-use Rattle.trm_image.proofs.inner.rows.count_wrong.Reads as count-wrong-reads
-use Rattle.trm_image.proofs.inner.rows.cut_short.Reads as cut-short-reads
-use Rattle.trm_image.proofs.inner.rows.in_order.Reads as in-order-reads
-use Rattle.trm_image.proofs.inner.rows.length_wrong.Reads as length-wrong-reads
-use Rattle.trm_image.proofs.inner.rows.line_wrong.Reads as line-wrong-reads
-use Rattle.trm_image.proofs.inner.rows.word_wrong.Reads as word-wrong-reads
 
 cut-short-requires : tie.Need-cut-short-requires
 cut-short-requires c κs = search needs
@@ -39,39 +28,140 @@ length-wrong-requires c κs = search needs
 
 returns-2 : tie.Need-returns-2
 unfolding faultAt
-returns-2 c = rw (← c .before .before .before .before .before .cut-short .ensures, c .before .before .before .before .if1 .left, ← c .before .before .before .half-at .ensures, ← c .before .before .word-at .ensures, ← c .before .length-wrong .ensures, c .if2 .taken)
+returns-2 c =
+    rw (
+      ← c .before .before .before .before .before .cut-short .ensures,
+      c .before .before .before .before .if1 .left,
+      ← c .before
+          .before .before .half-at .ensures,
+      ← c .before .before .word-at .ensures,
+      ← c .before .length-wrong .ensures,
+      c .if2 .taken,
+    )
 
 count-wrong-requires : tie.Need-count-wrong-requires
 count-wrong-requires c κs = search needs
 
 returns-3 : tie.Need-returns-3
 unfolding faultAt
-returns-3 c = rw (← c .before .before .before .before .before .before .before .cut-short .ensures, c .before .before .before .before .before .before .if1 .left, ← c .before .before .before .before .before .half-at .ensures, ← c .before .before .before .before .word-at .ensures, ← c .before .before .before .length-wrong .ensures, c .before .before .if2 .left, ← c .before .count-wrong .ensures, c .if3 .taken)
+returns-3 c =
+    rw (
+      ← c .before .before .before .before .before .before .before .cut-short .ensures,
+      c .before .before .before .before .before
+          .before .if1 .left,
+      ← c .before .before .before .before .before .half-at .ensures,
+      ← c .before .before .before .before .word-at
+          .ensures,
+      ← c .before .before .before .length-wrong .ensures,
+      c .before .before .if2 .left,
+      ← c .before .count-wrong .ensures,
+      c
+          .if3 .taken,
+    )
 
 in-order-requires : tie.Need-in-order-requires
 in-order-requires c κs = search needs
 
 returns-4 : tie.Need-returns-4
 unfolding faultAt
-returns-4 c = rw (← c .before .before .before .before .before .before .before .before .before .cut-short .ensures, c .before .before .before .before .before .before .before .before .if1 .left, ← c .before .before .before .before .before .before .before .half-at .ensures, ← c .before .before .before .before .before .before .word-at .ensures, ← c .before .before .before .before .before .length-wrong .ensures, c .before .before .before .before .if2 .left, ← c .before .before .before .count-wrong .ensures, c .before .before .if3 .left, ← c .before .in-order .ensures, c .if4 .taken)
+returns-4 c =
+    rw (
+      ← c .before .before .before .before .before .before .before .before .before .cut-short .ensures,
+      c .before .before .before
+          .before .before .before .before .before .if1 .left,
+      ← c .before .before .before .before .before .before .before .half-at
+          .ensures,
+      ← c .before .before .before .before .before .before .word-at .ensures,
+      ← c .before .before .before .before .before
+          .length-wrong .ensures,
+      c .before .before .before .before .if2 .left,
+      ← c .before .before .before .count-wrong .ensures,
+      c
+          .before .before .if3 .left,
+      ← c .before .in-order .ensures,
+      c .if4 .taken,
+    )
 
 word-wrong-requires : tie.Need-word-wrong-requires
 word-wrong-requires c κs = search needs
 
 returns-5 : tie.Need-returns-5
 unfolding faultAt
-returns-5 c = rw (← c .before .before .before .before .before .before .before .before .before .before .before .cut-short .ensures, c .before .before .before .before .before .before .before .before .before .before .if1 .left, ← c .before .before .before .before .before .before .before .before .before .half-at .ensures, ← c .before .before .before .before .before .before .before .before .word-at .ensures, ← c .before .before .before .before .before .before .before .length-wrong .ensures, c .before .before .before .before .before .before .if2 .left, ← c .before .before .before .before .before .count-wrong .ensures, c .before .before .before .before .if3 .left, ← c .before .before .before .in-order .ensures, c .before .before .if4 .left, ← c .before .word-wrong .ensures, c .if5 .taken)
+returns-5 c =
+    let c10 = c .before .before .before .before .before .before .before .before .before .before in
+    rw (
+      ← c10 .before .cut-short .ensures,
+      c10 .if1 .left,
+      ← c .before .before .before .before .before .before .before .before
+          .before .half-at .ensures,
+      ← c .before .before .before .before .before .before .before .before .word-at .ensures,
+      ← c .before
+          .before .before .before .before .before .before .length-wrong .ensures,
+      c .before .before .before .before .before .before .if2
+          .left,
+      ← c .before .before .before .before .before .count-wrong .ensures,
+      c .before .before .before .before .if3 .left,
+      ← c
+          .before .before .before .in-order .ensures,
+      c .before .before .if4 .left,
+      ← c .before .word-wrong .ensures,
+      c .if5 .taken,
+    )
 
 line-wrong-requires : tie.Need-line-wrong-requires
 line-wrong-requires c κs = search needs
 
 returns-6 : tie.Need-returns-6
 unfolding faultAt
-returns-6 c = rw (← c .before .before .before .before .before .before .before .before .before .before .before .before .before .cut-short .ensures, c .before .before .before .before .before .before .before .before .before .before .before .before .if1 .left, ← c .before .before .before .before .before .before .before .before .before .before .before .half-at .ensures, ← c .before .before .before .before .before .before .before .before .before .before .word-at .ensures, ← c .before .before .before .before .before .before .before .before .before .length-wrong .ensures, c .before .before .before .before .before .before .before .before .if2 .left, ← c .before .before .before .before .before .before .before .count-wrong .ensures, c .before .before .before .before .before .before .if3 .left, ← c .before .before .before .before .before .in-order .ensures, c .before .before .before .before .if4 .left, ← c .before .before .before .word-wrong .ensures, c .before .before .if5 .left, ← c .before .line-wrong .ensures, c .if6 .taken)
+returns-6 c =
+    let c10 = c .before .before .before .before .before .before .before .before .before .before in
+    rw (
+      ← c10 .before .before .before .cut-short .ensures,
+      c10 .before .before .if1 .left,
+      ← c10 .before .half-at .ensures,
+      ← c10
+          .word-at .ensures,
+      ← c .before .before .before .before .before .before .before .before .before .length-wrong .ensures,
+      c .before
+          .before .before .before .before .before .before .before .if2 .left,
+      ← c .before .before .before .before .before .before .before
+          .count-wrong .ensures,
+      c .before .before .before .before .before .before .if3 .left,
+      ← c .before .before .before .before .before
+          .in-order .ensures,
+      c .before .before .before .before .if4 .left,
+      ← c .before .before .before .word-wrong .ensures,
+      c .before
+          .before .if5 .left,
+      ← c .before .line-wrong .ensures,
+      c .if6 .taken,
+    )
 
 returns-7 : tie.Need-returns-7
 unfolding faultAt
-returns-7 c = rw (← c .before .before .before .before .before .before .before .before .before .before .before .before .before .cut-short .ensures, c .before .before .before .before .before .before .before .before .before .before .before .before .if1 .left, ← c .before .before .before .before .before .before .before .before .before .before .before .half-at .ensures, ← c .before .before .before .before .before .before .before .before .before .before .word-at .ensures, ← c .before .before .before .before .before .before .before .before .before .length-wrong .ensures, c .before .before .before .before .before .before .before .before .if2 .left, ← c .before .before .before .before .before .before .before .count-wrong .ensures, c .before .before .before .before .before .before .if3 .left, ← c .before .before .before .before .before .in-order .ensures, c .before .before .before .before .if4 .left, ← c .before .before .before .word-wrong .ensures, c .before .before .if5 .left, ← c .before .line-wrong .ensures, c .if6 .left)
+returns-7 c =
+    let c10 = c .before .before .before .before .before .before .before .before .before .before in
+    rw (
+      ← c10 .before .before .before .cut-short .ensures,
+      c10 .before .before .if1 .left,
+      ← c10 .before .half-at .ensures,
+      ← c10
+          .word-at .ensures,
+      ← c .before .before .before .before .before .before .before .before .before .length-wrong .ensures,
+      c .before
+          .before .before .before .before .before .before .before .if2 .left,
+      ← c .before .before .before .before .before .before .before
+          .count-wrong .ensures,
+      c .before .before .before .before .before .before .if3 .left,
+      ← c .before .before .before .before .before
+          .in-order .ensures,
+      c .before .before .before .before .if4 .left,
+      ← c .before .before .before .word-wrong .ensures,
+      c .before
+          .before .if5 .left,
+      ← c .before .line-wrong .ensures,
+      c .if6 .left,
+    )
 
 pub fault-at-spec : {M : Type 1} → statement M
 fault-at-spec =

@@ -1,11 +1,8 @@
 -- The proof of trm_image::inner::rows::in_order.
 use Rattle.trm_image.specs.Refused.{inOrder}
 use borrow.Author.Tests.{ne-eqb}
-use borrow.Author.Needs.{needs}
 use Rattle.trm_image.proofs.inner.rows.in_order.Statement.{statement}
 use Rattle.trm_image.proofs.inner.rows.in_order.Tie as tie
-use Rattle.trm_image.proofs.inner.rows.in_order.Reads as reads
-use Rattle.trm_image.proofs.inner.rows.in_order.Lts as lts
 
 returns : tie.Need-returns
 unfolding inOrder

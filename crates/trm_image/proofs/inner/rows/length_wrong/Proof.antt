@@ -4,10 +4,6 @@ use borrow.Author.Tests.{lt-ltb, le-ltb, ne-eqb}
 use borrow.Author.Needs.{needs}
 use Rattle.trm_image.proofs.inner.rows.length_wrong.Statement.{statement}
 use Rattle.trm_image.proofs.inner.rows.length_wrong.Tie as tie
-use Rattle.trm_image.proofs.inner.rows.length_wrong.Reads as reads
-use Rattle.trm_image.proofs.inner.rows.length_wrong.Lts as lts
-use Rattle.trm_image.proofs.inner.rows.not_in_fours.Reads as not-in-fours-reads
-use Rattle.trm_image.proofs.inner.rows.program_length_wrong.Reads as program-length-wrong-reads
 
 program-length-wrong-requires : tie.Need-program-length-wrong-requires
 program-length-wrong-requires c κs = search needs

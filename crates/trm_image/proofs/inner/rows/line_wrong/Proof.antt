@@ -4,10 +4,6 @@ use borrow.Author.Tests.{eq-eqb, ne-eqb}
 use borrow.Author.Needs.{needs}
 use Rattle.trm_image.proofs.inner.rows.line_wrong.Statement.{statement}
 use Rattle.trm_image.proofs.inner.rows.line_wrong.Tie as tie
-use Rattle.trm_image.proofs.inner.rows.line_wrong.Reads as reads
-use Rattle.trm_image.proofs.inner.rows.line_wrong.Lts as lts
-use Rattle.trm_image.proofs.inner.bytes.byte_at.Reads as byte-at-reads
-use Rattle.trm_image.proofs.inner.bytes.half_at.Reads as half-at-reads
 
 add-half-at : tie.Need-add-half-at
 add-half-at c = search needs

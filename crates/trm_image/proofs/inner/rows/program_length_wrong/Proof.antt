@@ -3,9 +3,6 @@ use borrow.Author.Tests.{lt-ltb, le-ltb}
 use borrow.Author.Needs.{needs}
 use Rattle.trm_image.proofs.inner.rows.program_length_wrong.Statement.{statement}
 use Rattle.trm_image.proofs.inner.rows.program_length_wrong.Tie as tie
-use Rattle.trm_image.proofs.inner.rows.program_length_wrong.Reads as reads
-use Rattle.trm_image.proofs.inner.rows.program_length_wrong.Lts as lts
-use Rattle.trm_image.proofs.inner.rows.not_in_fours.Reads as not-in-fours-reads
 
 returns : tie.Need-returns
 returns c = rw (lt-ltb _ _ (c .if1 .taken))

@@ -4,11 +4,6 @@ use Rattle.trm_image.specs.Refused.{wordWrong}
 use borrow.Author.Needs.{needs}
 use Rattle.trm_image.proofs.inner.rows.word_wrong.Statement.{statement}
 use Rattle.trm_image.proofs.inner.rows.word_wrong.Tie as tie
-use Rattle.trm_image.proofs.inner.rows.word_wrong.Reads as reads
-use Rattle.trm_image.proofs.inner.rows.word_wrong.Lts as lts
-use Rattle.trm_image.proofs.inner.bytes.half_at.Reads as half-at-reads
-use Rattle.trm_image.proofs.inner.bytes.word_at.Reads as word-at-reads
-use Rattle.trm_image.proofs.inner.rows.words_fit.Reads as words-fit-reads
 
 add-half-at : tie.Need-add-half-at
 add-half-at c = search needs
@@ -34,7 +29,14 @@ words-fit-requires c κs = search needs
 
 returns-2 : tie.Need-returns-2
 unfolding wordWrong
-returns-2 c = rw (← c .before .before .before .half-at .ensures, eq-eqb _ 1 (c .before .before .if1 .left), ← c .before .word-at .ensures, c .words-fit .ensures)
+returns-2 c =
+    rw (
+      ← c .before .before .before .half-at .ensures,
+      eq-eqb _ 1 (c .before .before .if1 .left),
+      ← c .before .word-at .ensures,
+      c
+          .words-fit .ensures,
+    )
 
 pub word-wrong-spec : {M : Type 1} → statement M
 word-wrong-spec =

@@ -1,16 +1,12 @@
 -- The proof of trm_image::inner::rows::words_fit.
 use Rattle.trm_image.proofs.Laws.Words.{fits-more, fits-bad, fits-end, fits-all}
-use mathlib.Core.Path.{_≡_, refl, sym, _∙_, subst}
+use mathlib.Core.Path.{_≡_, sym, _∙_, subst}
 use Prim.Native.Nat.{_+_, _*_, _-_, _≤_, _<_}
 use native.Mathlib.Omega.{arith}
 use Rattle.trm_core.specs.Refusals.{allAtMost}
 use Rattle.trm_image.specs.Records.{wordsAt}
-use borrow.Author.Needs.{needs}
 use Rattle.trm_image.proofs.inner.rows.words_fit.Statement.{statement}
 use Rattle.trm_image.proofs.inner.rows.words_fit.Tie as tie
-use Rattle.trm_image.proofs.inner.rows.words_fit.Reads as reads
-use Rattle.trm_image.proofs.inner.rows.words_fit.Lts as lts
-use Rattle.trm_image.proofs.inner.bytes.word_at.Reads as word-at-reads
 
 abbrev Inv-loop : tie.InvT-loop
 Inv-loop s at words i₀ i = allAtMost 0x3FFFF (wordsAt s (at + i * 4) (words - i)) ≡ allAtMost 0x3FFFF (wordsAt s at words)

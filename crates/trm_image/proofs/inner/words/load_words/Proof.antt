@@ -9,9 +9,6 @@ use Rattle.trm_image.proofs.Laws.Load.{load-more, load-end}
 use borrow.Author.Needs.{needs}
 use Rattle.trm_image.proofs.inner.words.load_words.Statement.{statement}
 use Rattle.trm_image.proofs.inner.words.load_words.Tie as tie
-use Rattle.trm_image.proofs.inner.words.load_words.Reads as reads
-use Rattle.trm_image.proofs.inner.words.load_words.Lts as lts
-use Rattle.trm_image.proofs.inner.words.word_or_zero.Reads as word-or-zero-reads
 
 abbrev Inv-loop : tie.InvT-loop
 Inv-loop image at count out₀ i₀ out i =

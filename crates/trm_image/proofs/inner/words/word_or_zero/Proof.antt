@@ -4,9 +4,6 @@ use mathlib.Core.Path.{_∙_}
 use Rattle.trm_image.proofs.Laws.Load.{nth-word, no-word}
 use Rattle.trm_image.proofs.inner.words.word_or_zero.Statement.{statement}
 use Rattle.trm_image.proofs.inner.words.word_or_zero.Tie as tie
-use Rattle.trm_image.proofs.inner.words.word_or_zero.Reads as reads
-use Rattle.trm_image.proofs.inner.words.word_or_zero.Lts as lts
-use Rattle.trm_image.proofs.inner.bytes.word_at.Reads as word-at-reads
 
 mul-word-at : tie.Need-mul-word-at
 mul-word-at c = omega (arith, c .before .before .pre)

@@ -1,5 +1,5 @@
 -- The proof of trm_listing::inner::clocks::begins.
-use mathlib.Core.Path.{refl, sym}
+use mathlib.Core.Path.{sym}
 use native.Mathlib.Omega.{arith}
 use Rattle.trm_ahead.proofs.Laws.Here.{ready-here}
 use Rattle.trm_listing.proofs.Laws.Onward.{onward-went}
@@ -7,11 +7,6 @@ use Rattle.trm_listing.proofs.Laws.Gone.{good-able, taken-idle}
 use borrow.Author.Needs.{needs}
 use Rattle.trm_listing.proofs.inner.clocks.begins.Statement.{statement}
 use Rattle.trm_listing.proofs.inner.clocks.begins.Tie as tie
-use Rattle.trm_listing.proofs.inner.clocks.begins.Reads as reads
-use Rattle.trm_listing.proofs.inner.clocks.begins.Lts as lts
-use Rattle.trm_listing.proofs.inner.listed.went.Reads as went-reads
-use Rattle.trm_reading.proofs.inner.reading.word_at.Reads as word-at-reads
-use Rattle.trm_walk.proofs.inner.first.first_clock.Reads as first-clock-reads
 
 word-at-requires : tie.Need-word-at-requires
 word-at-requires c κs = search needs
@@ -45,8 +40,15 @@ same-length-2 c = search needs
 
 returns : tie.Need-returns
 returns c =
-    let pre = c .before .before .before .before .before .before .before .before .before .before .before .before .before .before .before .before .before .pre in
-    (onward-went _ _ _ _ _ _ _ (pre .0) (pre .1) (pre .3) (taken-idle _ _ 0 (pre .4) (sym (pre .5))) _ _ _ _ (ready-here _ _ _ _ _ _ _ (c .before .before .before .before .before .before .before .before .before .before .before .before .before .word-at .ensures) (pre .3) (pre .4) (pre .5) _ (c .before .before .before .before .before .before .first-clock .ensures)) _ (c .before .before .before .before .before .before .before .before .before .before .before .before .before .word-at .ensures) _ _ (c .before .before .went .ensures), omega (arith, c .before .before .went .ensures .left, pre .1))
+    let pre = c .before .before .before .before .before .before .before .before .before .before .before .before .before .before
+    .before .before .before .pre in (
+      onward-went _ _ _ _ _ _ _ (pre .0) (pre .1) (pre .3) (taken-idle _ _ 0 (pre .4) (sym (pre .5))) _ _ _ _
+          (ready-here _ _ _ _ _ _ _ (c .before .before .before .before .before .before .before .before .before .before .before .before
+          .before .word-at .ensures) (pre .3) (pre .4) (pre .5) _ (c .before .before .before .before .before .before .first-clock
+          .ensures)) _ (c .before .before .before .before .before .before .before .before .before .before .before .before .before
+          .word-at .ensures) _ _ (c .before .before .went .ensures),
+      omega (arith, c .before .before .went .ensures .left, pre .1),
+    )
 
 pub begins-spec : {M : Type 1} → statement M
 begins-spec =

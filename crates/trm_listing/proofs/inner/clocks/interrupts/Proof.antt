@@ -1,25 +1,22 @@
 -- The proof of trm_listing::inner::clocks::interrupts.
-use mathlib.Core.Path.{refl, sym, subst}
+use mathlib.Core.Path.{refl}
 use native.Mathlib.Omega.{arith}
-use Prim.Native.Nat.{_≤_}
 use Rattle.trm_ahead.proofs.Laws.Here.{interrupt-here}
 use Rattle.trm_listing.proofs.Laws.Onward.{onward-interrupted}
 use Rattle.trm_listing.proofs.Laws.Gone.{good-able, taken-idle}
 use borrow.Author.Needs.{needs}
 use Rattle.trm_listing.proofs.inner.clocks.interrupts.Statement.{statement}
 use Rattle.trm_listing.proofs.inner.clocks.interrupts.Tie as tie
-use Rattle.trm_listing.proofs.inner.clocks.interrupts.Reads as reads
-use Rattle.trm_listing.proofs.inner.clocks.interrupts.Lts as lts
-use Rattle.trm_listing.proofs.inner.listed.interrupted.Reads as interrupted-reads
-use Rattle.trm_steps.proofs.inner.interrupt.take_interrupt.Reads as take-interrupt-reads
 
 take-interrupt-requires : tie.Need-take-interrupt-requires
 take-interrupt-requires c κs =
-    let gd = good-able _ _ (c .before .before .before .before .args .l) _ _ _ (c .before .before .before .before .args .buf .now) (c .before .before .before .before .pre .0) _ refl in
+    let gd = good-able _ _ (c .before .before .before .before .args .l) _ _ _ (c .before .before .before .before .args .buf .now)
+    (c .before .before .before .before .pre .0) _ refl in
     (gd .widths, gd .counts)
 
 interrupted-requires : tie.Need-interrupted-requires
-interrupted-requires c κs = (c .before .before .before .before .before .before .pre .2, c .before .before .before .before .before .before .pre .1)
+interrupted-requires c κs =
+    (c .before .before .before .before .before .before .pre .2, c .before .before .before .before .before .before .pre .1)
 
 same-length : tie.Need-same-length
 same-length c = search needs
@@ -27,8 +24,12 @@ same-length c = search needs
 returns : tie.Need-returns
 returns c =
     let pre = c .before .before .before .before .before .before .before .before .before .pre in
-    let t = c .before .before .before .before .take-interrupt .ensures in
-    (onward-interrupted _ _ _ _ _ _ _ (pre .0) (pre .1) (pre .3) _ (taken-idle _ _ _ (pre .4) (pre .5)) (pre .6) _ _ (interrupt-here _ _ _ _ _ _ (pre .3) (pre .4) _ (pre .5) (pre .6) _ _ (t .0) (t .1)) _ _ (c .before .before .interrupted .ensures), omega (arith, c .before .before .interrupted .ensures .left, pre .1))
+    let t = c .before .before .before .before .take-interrupt .ensures in (
+      onward-interrupted _ _ _ _ _ _ _ (pre .0) (pre .1) (pre .3) _ (taken-idle _ _ _ (pre .4) (pre .5)) (pre .6) _ _
+          (interrupt-here _ _ _ _ _ _ (pre .3) (pre .4) _ (pre .5) (pre .6) _ _ (t .0) (t .1)) _ _
+          (c .before .before .interrupted .ensures),
+      omega (arith, c .before .before .interrupted .ensures .left, pre .1),
+    )
 
 pub interrupts-spec : {M : Type 1} → statement M
 interrupts-spec =

@@ -1,16 +1,10 @@
 -- The proof of trm_listing::inner::clocks::list_clocks.
-use mathlib.Core.Path.{_≡_, refl, _∙_}
-use lib.ListN.{length}
 use native.Mathlib.Omega.{arith}
 use Rattle.trm_cache.specs.Cache.{cache}
 use Rattle.trm_listing.specs.Rest.{lentOf, Onward}
 use Rattle.trm_listing.proofs.Laws.Onward.{onward-none, onward-then}
-use borrow.Author.Needs.{needs}
 use Rattle.trm_listing.proofs.inner.clocks.list_clocks.Statement.{statement}
 use Rattle.trm_listing.proofs.inner.clocks.list_clocks.Tie as tie
-use Rattle.trm_listing.proofs.inner.clocks.list_clocks.Reads as reads
-use Rattle.trm_listing.proofs.inner.clocks.list_clocks.Lts as lts
-use Rattle.trm_listing.proofs.inner.clocks.one_turn.Reads as one-turn-reads
 
 abbrev Inv-loop : tie.InvT-loop
 Inv-loop program regs₀ full₀ dirty₀ block₀ words₀ store₀ line input base buf₀ g₀ regs full dirty block words store buf g =

@@ -1,14 +1,11 @@
 -- The proof of trm_listing::inner::finish::put_last.
-use mathlib.Core.Path.{refl, sym}
+use mathlib.Core.Path.{sym}
 use native.Mathlib.Omega.{arith}
 use Rattle.trm_laws.proofs.Tests.{clash}
 use Rattle.trm_text.proofs.Laws.Wrote.{wrote-none}
 use borrow.Author.Needs.{needs}
 use Rattle.trm_listing.proofs.inner.finish.put_last.Statement.{statement}
 use Rattle.trm_listing.proofs.inner.finish.put_last.Tie as tie
-use Rattle.trm_listing.proofs.inner.finish.put_last.Reads as reads
-use Rattle.trm_listing.proofs.inner.finish.put_last.Lts as lts
-use Rattle.trm_text.proofs.inner.lines.put_end.Reads as put-end-reads
 
 returns : tie.Need-returns
 returns c =

@@ -1,10 +1,7 @@
 -- The proof of trm_listing::inner::listed::interrupt_shown.
 use borrow.Author.Tests.{eq-eqb, ne-eqb}
-use borrow.Author.Needs.{needs}
 use Rattle.trm_listing.proofs.inner.listed.interrupt_shown.Statement.{statement}
 use Rattle.trm_listing.proofs.inner.listed.interrupt_shown.Tie as tie
-use Rattle.trm_listing.proofs.inner.listed.interrupt_shown.Reads as reads
-use Rattle.trm_listing.proofs.inner.listed.interrupt_shown.Lts as lts
 
 returns : tie.Need-returns
 returns c = rw (eq-eqb _ 2 (c .if1 .taken))

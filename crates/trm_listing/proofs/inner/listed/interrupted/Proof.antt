@@ -1,13 +1,9 @@
 -- The proof of trm_listing::inner::listed::interrupted.
-use mathlib.Core.Path.{refl, sym, subst}
+use mathlib.Core.Path.{refl}
 use native.Mathlib.Omega.{arith}
 use borrow.Author.Needs.{needs}
 use Rattle.trm_listing.proofs.inner.listed.interrupted.Statement.{statement}
 use Rattle.trm_listing.proofs.inner.listed.interrupted.Tie as tie
-use Rattle.trm_listing.proofs.inner.listed.interrupted.Reads as reads
-use Rattle.trm_listing.proofs.inner.listed.interrupted.Lts as lts
-use Rattle.trm_listing.proofs.inner.listed.interrupt_shown.Reads as interrupt-shown-reads
-use Rattle.trm_text.proofs.inner.lines.put_line.Reads as put-line-reads
 
 interrupt-shown-requires : tie.Need-interrupt-shown-requires
 interrupt-shown-requires c κs = search needs
@@ -22,7 +18,21 @@ same-length : tie.Need-same-length
 same-length c = search needs
 
 returns : tie.Need-returns
-returns c = record { scalars = refl; left = refl; took = refl; text = rw (← c .before .before .before .before .before .interrupt-shown .ensures) (c .before .before .before .put-line .ensures .0); fits = omega (arith, c .before .before .before .before .before .before .before .pre .0, c .before .before .before .put-line .ensures .1, c .before .before .before .put-line .ensures .0 .long) }
+returns c =
+    record {
+      scalars = refl;
+      left = refl;
+      took = refl;
+      text = rw (← c .before .before .before .before .before .interrupt-shown
+          .ensures) (c .before .before .before .put-line .ensures .0);
+      fits = omega (
+        arith,
+        c .before .before .before .before .before
+            .before .before .pre .0,
+        c .before .before .before .put-line .ensures .1,
+        c .before .before .before .put-line .ensures .0 .long,
+      );
+    }
 
 pub interrupted-spec : {M : Type 1} → statement M
 interrupted-spec =

@@ -1,5 +1,5 @@
 -- The proof of trm_listing::inner::runs::list_runs.
-use mathlib.Core.Path.{_≡_, refl, sym, ap, _∙_}
+use mathlib.Core.Path.{ap, _∙_}
 use Rattle.trm_listing.specs.declared.inner.runs.Place.{Place}
 use mathlib.Core.Logic.{_≢_}
 use native.Mathlib.Omega.{arith}
@@ -8,13 +8,8 @@ use lib.ListN.{length}
 use Rattle.trm_cache.specs.Cache.{cache}
 use Rattle.trm_listing.specs.Rest.{lentOf, Along}
 use Rattle.trm_listing.proofs.Laws.Along.{along-none, along-then, along-next}
-use borrow.Author.Needs.{needs}
 use Rattle.trm_listing.proofs.inner.runs.list_runs.Statement.{statement}
 use Rattle.trm_listing.proofs.inner.runs.list_runs.Tie as tie
-use Rattle.trm_listing.proofs.inner.runs.list_runs.Reads as reads
-use Rattle.trm_listing.proofs.inner.runs.list_runs.Lts as lts
-use Rattle.trm_listing.proofs.inner.runs.next_run.Reads as next-run-reads
-use Rattle.trm_listing.proofs.inner.runs.run_here.Reads as run-here-reads
 
 abbrev Inv-loop : tie.InvT-loop
 Inv-loop image program regs₀ full₀ dirty₀ block₀ words₀ store₀ base buf₀ p₀ regs full dirty block words store buf p =

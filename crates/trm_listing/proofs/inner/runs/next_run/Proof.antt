@@ -2,10 +2,6 @@
 use borrow.Author.Needs.{needs}
 use Rattle.trm_listing.proofs.inner.runs.next_run.Statement.{statement}
 use Rattle.trm_listing.proofs.inner.runs.next_run.Tie as tie
-use Rattle.trm_listing.proofs.inner.runs.next_run.Reads as reads
-use Rattle.trm_listing.proofs.inner.runs.next_run.Lts as lts
-use Rattle.trm_image.proofs.inner.bytes.byte_at.Reads as byte-at-reads
-use Rattle.trm_image.proofs.inner.bytes.word_at.Reads as word-at-reads
 
 add-word-at : tie.Need-add-word-at
 add-word-at c = search needs

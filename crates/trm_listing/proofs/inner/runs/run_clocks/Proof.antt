@@ -8,11 +8,6 @@ use Rattle.trm_listing.proofs.Laws.Held.{onward-held}
 use borrow.Author.Needs.{needs}
 use Rattle.trm_listing.proofs.inner.runs.run_clocks.Statement.{statement}
 use Rattle.trm_listing.proofs.inner.runs.run_clocks.Tie as tie
-use Rattle.trm_listing.proofs.inner.runs.run_clocks.Reads as reads
-use Rattle.trm_listing.proofs.inner.runs.run_clocks.Lts as lts
-use Rattle.trm_listing.proofs.inner.clocks.list_clocks.Reads as list-clocks-reads
-use Rattle.trm_listing.proofs.inner.runs.hold_all.Reads as hold-all-reads
-use Rattle.trm_steps.proofs.inner.interrupt.is_stalled.Reads as is-stalled-reads
 
 is-stalled-requires : tie.Need-is-stalled-requires
 is-stalled-requires c κs = search needs
@@ -20,14 +15,20 @@ is-stalled-requires c κs = search needs
 hold-all-requires : tie.Need-hold-all-requires
 hold-all-requires c κs =
     let a = c .before .before .before .before .before .before .pre .0 in
-    let gd = good-able _ _ (c .before .before .before .before .before .before .args .l) _ _ _ (c .before .before .before .before .before .before .args .buf .now) a _ refl in
+    let gd = good-able _ _ (c .before .before .before .before .before .before .args .l) _ _ _
+    (c .before .before .before .before .before .before .args .buf .now) a _ refl in
     let k = counts-from (c .before .before .before .before .before .before .args .l .scalars .counts) (gd .counts) in
     (a .room, omega (arith, a .room, k .held, k .clocks))
 
 returns : tie.Need-returns
 returns c =
     let a = c .before .before .before .before .before .before .before .pre .0 in
-    rw (c .hold-all .ensures) (onward-held _ _ (c .before .before .before .before .before .before .before .args .l) _ _ _ _ a (sym (c .before .before .before .is-stalled .ensures) ∙ c .before .before .if1 .taken) (c .before .before .before .before .before .before .before .pre .1), λ z. absurd (z refl))
+    rw (c .hold-all .ensures) (
+      onward-held _ _ (c .before .before .before .before .before .before .before .args .l) _ _ _ _ a (sym
+          (c .before .before .before .is-stalled .ensures) ∙ c .before .before .if1 .taken)
+          (c .before .before .before .before .before .before .before .pre .1),
+      λ z. absurd (z refl),
+    )
 
 list-clocks-requires : tie.Need-list-clocks-requires
 list-clocks-requires c κs =

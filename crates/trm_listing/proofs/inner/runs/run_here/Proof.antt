@@ -4,9 +4,6 @@ use Rattle.trm_listing.proofs.Laws.Along.{along-clocks}
 use borrow.Author.Needs.{needs}
 use Rattle.trm_listing.proofs.inner.runs.run_here.Statement.{statement}
 use Rattle.trm_listing.proofs.inner.runs.run_here.Tie as tie
-use Rattle.trm_listing.proofs.inner.runs.run_here.Reads as reads
-use Rattle.trm_listing.proofs.inner.runs.run_here.Lts as lts
-use Rattle.trm_listing.proofs.inner.runs.run_clocks.Reads as run-clocks-reads
 
 run-clocks-requires : tie.Need-run-clocks-requires
 run-clocks-requires c κs =

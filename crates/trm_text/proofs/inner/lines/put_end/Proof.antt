@@ -6,11 +6,6 @@ use Rattle.trm_text.proofs.Laws.Wrote.{wrote-then}
 use borrow.Author.Needs.{needs}
 use Rattle.trm_text.proofs.inner.lines.put_end.Statement.{statement}
 use Rattle.trm_text.proofs.inner.lines.put_end.Tie as tie
-use Rattle.trm_text.proofs.inner.lines.put_end.Reads as reads
-use Rattle.trm_text.proofs.inner.lines.put_end.Lts as lts
-use Rattle.trm_text.proofs.inner.lines.put_text.Reads as put-text-reads
-use Rattle.trm_text.proofs.inner.numbers.put_byte.Reads as put-byte-reads
-use Rattle.trm_text.proofs.inner.numbers.put_decimal.Reads as put-decimal-reads
 
 slice-aggregate-put-text : tie.Need-slice-aggregate-put-text
 slice-aggregate-put-text c = search needs
@@ -21,52 +16,254 @@ put-text-requires c κs = omega (arith, c .before .before .before .pre)
 
 put-decimal-requires : tie.Need-put-decimal-requires
 unfolding endBytes
-put-decimal-requires c κs = omega (arith, c .before .before .before .before .before .before .before .pre, c .before .before .before .put-text .ensures .1, c .before .before .before .put-text .ensures .0 .long)
+put-decimal-requires c κs =
+    omega (
+      arith,
+      c .before .before .before .before .before .before .before .pre,
+      c .before .before .before .put-text .ensures .1,
+      c
+          .before .before .before .put-text .ensures .0 .long,
+    )
 
 slice-aggregate-put-text-2 : tie.Need-slice-aggregate-put-text-2
 slice-aggregate-put-text-2 c = search needs
 
 put-text-requires-2 : tie.Need-put-text-requires-2
 unfolding endBytes
-put-text-requires-2 c κs = omega (arith, c .before .before .before .before .before .before .before .before .before .before .before .before .pre, c .before .before .before .before .before .before .before .before .put-text .ensures .1, c .before .before .before .before .before .before .before .before .put-text .ensures .0 .long, c .before .before .before .before .put-decimal .ensures .1, c .before .before .before .before .put-decimal .ensures .0 .long)
+put-text-requires-2 c κs =
+    let c10 = c .before .before .before .before .before .before .before .before .before .before in
+    omega (
+      arith,
+      c10 .before .before .pre,
+      c .before .before .before .before .before .before .before .before .put-text .ensures .1,
+      c .before .before .before .before .before .before .before .before .put-text .ensures .0 .long,
+      c .before .before .before .before
+          .put-decimal .ensures .1,
+      c .before .before .before .before .put-decimal .ensures .0 .long,
+    )
 
 put-decimal-requires-2 : tie.Need-put-decimal-requires-2
 unfolding endBytes
-put-decimal-requires-2 c κs = omega (arith, c .before .before .before .before .before .before .before .before .before .before .before .before .before .before .before .before .pre, c .before .before .before .before .before .before .before .before .before .before .before .before .put-text .ensures .1, c .before .before .before .before .before .before .before .before .before .before .before .before .put-text .ensures .0 .long, c .before .before .before .before .before .before .before .before .put-decimal .ensures .1, c .before .before .before .before .before .before .before .before .put-decimal .ensures .0 .long, c .before .before .before .put-text2 .ensures .1, c .before .before .before .put-text2 .ensures .0 .long)
+put-decimal-requires-2 c κs =
+    let c10 = c .before .before .before .before .before .before .before .before .before .before in
+    omega (
+      arith,
+      c10 .before .before .before .before .before .before .pre,
+      c10 .before .before .put-text .ensures .1,
+      c10 .before
+          .before .put-text .ensures .0 .long,
+      c .before .before .before .before .before .before .before .before .put-decimal .ensures .1,
+      c .before .before .before .before .before .before .before .before .put-decimal .ensures .0 .long,
+      c .before .before .before
+          .put-text2 .ensures .1,
+      c .before .before .before .put-text2 .ensures .0 .long,
+    )
 
 slice-aggregate-put-text-3 : tie.Need-slice-aggregate-put-text-3
 slice-aggregate-put-text-3 c = search needs
 
 put-text-requires-3 : tie.Need-put-text-requires-3
 unfolding endBytes
-put-text-requires-3 c κs = omega (arith, c .before .before .before .before .before .before .before .before .before .before .before .before .before .before .before .before .before .before .before .before .before .pre, c .before .before .before .before .before .before .before .before .before .before .before .before .before .before .before .before .before .put-text .ensures .1, c .before .before .before .before .before .before .before .before .before .before .before .before .before .before .before .before .before .put-text .ensures .0 .long, c .before .before .before .before .before .before .before .before .before .before .before .before .before .put-decimal .ensures .1, c .before .before .before .before .before .before .before .before .before .before .before .before .before .put-decimal .ensures .0 .long, c .before .before .before .before .before .before .before .before .put-text2 .ensures .1, c .before .before .before .before .before .before .before .before .put-text2 .ensures .0 .long, c .before .before .before .before .put-decimal2 .ensures .1, c .before .before .before .before .put-decimal2 .ensures .0 .long)
+put-text-requires-3 c κs =
+    let c10 = c .before .before .before .before .before .before .before .before .before .before in
+    let c20 = c10 .before .before .before .before .before .before .before .before .before .before in
+    omega (
+      arith,
+      c20 .before .pre,
+      c10 .before .before .before .before .before .before .before .put-text .ensures .1,
+      c10 .before
+          .before .before .before .before .before .before .put-text .ensures .0 .long,
+      c10 .before .before .before .put-decimal .ensures
+          .1,
+      c10 .before .before .before .put-decimal .ensures .0 .long,
+      c .before .before .before .before .before .before .before
+          .before .put-text2 .ensures .1,
+      c .before .before .before .before .before .before .before .before .put-text2 .ensures .0 .long,
+      c .before .before .before .before .put-decimal2 .ensures .1,
+      c .before .before .before .before .put-decimal2 .ensures .0 .long,
+    )
 
 put-decimal-requires-3 : tie.Need-put-decimal-requires-3
 unfolding endBytes
-put-decimal-requires-3 c κs = omega (arith, c .before .before .before .before .before .before .before .before .before .before .before .before .before .before .before .before .before .before .before .before .before .before .before .before .before .pre, c .before .before .before .before .before .before .before .before .before .before .before .before .before .before .before .before .before .before .before .before .before .put-text .ensures .1, c .before .before .before .before .before .before .before .before .before .before .before .before .before .before .before .before .before .before .before .before .before .put-text .ensures .0 .long, c .before .before .before .before .before .before .before .before .before .before .before .before .before .before .before .before .before .put-decimal .ensures .1, c .before .before .before .before .before .before .before .before .before .before .before .before .before .before .before .before .before .put-decimal .ensures .0 .long, c .before .before .before .before .before .before .before .before .before .before .before .before .put-text2 .ensures .1, c .before .before .before .before .before .before .before .before .before .before .before .before .put-text2 .ensures .0 .long, c .before .before .before .before .before .before .before .before .put-decimal2 .ensures .1, c .before .before .before .before .before .before .before .before .put-decimal2 .ensures .0 .long, c .before .before .before .put-text3 .ensures .1, c .before .before .before .put-text3 .ensures .0 .long)
+put-decimal-requires-3 c κs =
+    let c10 = c .before .before .before .before .before .before .before .before .before .before in
+    let c20 = c10 .before .before .before .before .before .before .before .before .before .before in
+    omega (
+      arith,
+      c20 .before .before .before .before .before .pre,
+      c20 .before .put-text .ensures .1,
+      c20 .before .put-text
+          .ensures .0 .long,
+      c10 .before .before .before .before .before .before .before .put-decimal .ensures .1,
+      c10 .before .before
+          .before .before .before .before .before .put-decimal .ensures .0 .long,
+      c10 .before .before .put-text2 .ensures .1,
+      c10 .before
+          .before .put-text2 .ensures .0 .long,
+      c .before .before .before .before .before .before .before .before .put-decimal2 .ensures
+          .1,
+      c .before .before .before .before .before .before .before .before .put-decimal2 .ensures .0 .long,
+      c .before .before .before
+          .put-text3 .ensures .1,
+      c .before .before .before .put-text3 .ensures .0 .long,
+    )
 
 slice-aggregate-put-text-4 : tie.Need-slice-aggregate-put-text-4
 slice-aggregate-put-text-4 c = search needs
 
 put-text-requires-4 : tie.Need-put-text-requires-4
 unfolding endBytes
-put-text-requires-4 c κs = omega (arith, c .before .before .before .before .before .before .before .before .before .before .before .before .before .before .before .before .before .before .before .before .before .before .before .before .before .before .before .before .before .before .pre, c .before .before .before .before .before .before .before .before .before .before .before .before .before .before .before .before .before .before .before .before .before .before .before .before .before .before .put-text .ensures .1, c .before .before .before .before .before .before .before .before .before .before .before .before .before .before .before .before .before .before .before .before .before .before .before .before .before .before .put-text .ensures .0 .long, c .before .before .before .before .before .before .before .before .before .before .before .before .before .before .before .before .before .before .before .before .before .before .put-decimal .ensures .1, c .before .before .before .before .before .before .before .before .before .before .before .before .before .before .before .before .before .before .before .before .before .before .put-decimal .ensures .0 .long, c .before .before .before .before .before .before .before .before .before .before .before .before .before .before .before .before .before .put-text2 .ensures .1, c .before .before .before .before .before .before .before .before .before .before .before .before .before .before .before .before .before .put-text2 .ensures .0 .long, c .before .before .before .before .before .before .before .before .before .before .before .before .before .put-decimal2 .ensures .1, c .before .before .before .before .before .before .before .before .before .before .before .before .before .put-decimal2 .ensures .0 .long, c .before .before .before .before .before .before .before .before .put-text3 .ensures .1, c .before .before .before .before .before .before .before .before .put-text3 .ensures .0 .long, c .before .before .before .before .put-decimal3 .ensures .1, c .before .before .before .before .put-decimal3 .ensures .0 .long)
+put-text-requires-4 c κs =
+    let c10 = c .before .before .before .before .before .before .before .before .before .before in
+    let c20 = c10 .before .before .before .before .before .before .before .before .before .before in
+    let c30 = c20 .before .before .before .before .before .before .before .before .before .before in
+    omega (
+      arith,
+      c30 .pre,
+      c20 .before .before .before .before .before .before .put-text .ensures .1,
+      c20 .before .before .before
+          .before .before .before .put-text .ensures .0 .long,
+      c20 .before .before .put-decimal .ensures .1,
+      c20 .before .before
+          .put-decimal .ensures .0 .long,
+      c10 .before .before .before .before .before .before .before .put-text2 .ensures .1,
+      c10 .before
+          .before .before .before .before .before .before .put-text2 .ensures .0 .long,
+      c10 .before .before .before .put-decimal2 .ensures
+          .1,
+      c10 .before .before .before .put-decimal2 .ensures .0 .long,
+      c .before .before .before .before .before .before .before
+          .before .put-text3 .ensures .1,
+      c .before .before .before .before .before .before .before .before .put-text3 .ensures .0 .long,
+      c .before .before .before .before .put-decimal3 .ensures .1,
+      c .before .before .before .before .put-decimal3 .ensures .0 .long,
+    )
 
 put-decimal-requires-4 : tie.Need-put-decimal-requires-4
 unfolding endBytes
-put-decimal-requires-4 c κs = omega (arith, c .before .before .before .before .before .before .before .before .before .before .before .before .before .before .before .before .before .before .before .before .before .before .before .before .before .before .before .before .before .before .before .before .before .before .pre, c .before .before .before .before .before .before .before .before .before .before .before .before .before .before .before .before .before .before .before .before .before .before .before .before .before .before .before .before .before .before .put-text .ensures .1, c .before .before .before .before .before .before .before .before .before .before .before .before .before .before .before .before .before .before .before .before .before .before .before .before .before .before .before .before .before .before .put-text .ensures .0 .long, c .before .before .before .before .before .before .before .before .before .before .before .before .before .before .before .before .before .before .before .before .before .before .before .before .before .before .put-decimal .ensures .1, c .before .before .before .before .before .before .before .before .before .before .before .before .before .before .before .before .before .before .before .before .before .before .before .before .before .before .put-decimal .ensures .0 .long, c .before .before .before .before .before .before .before .before .before .before .before .before .before .before .before .before .before .before .before .before .before .put-text2 .ensures .1, c .before .before .before .before .before .before .before .before .before .before .before .before .before .before .before .before .before .before .before .before .before .put-text2 .ensures .0 .long, c .before .before .before .before .before .before .before .before .before .before .before .before .before .before .before .before .before .put-decimal2 .ensures .1, c .before .before .before .before .before .before .before .before .before .before .before .before .before .before .before .before .before .put-decimal2 .ensures .0 .long, c .before .before .before .before .before .before .before .before .before .before .before .before .put-text3 .ensures .1, c .before .before .before .before .before .before .before .before .before .before .before .before .put-text3 .ensures .0 .long, c .before .before .before .before .before .before .before .before .put-decimal3 .ensures .1, c .before .before .before .before .before .before .before .before .put-decimal3 .ensures .0 .long, c .before .before .before .put-text4 .ensures .1, c .before .before .before .put-text4 .ensures .0 .long)
+put-decimal-requires-4 c κs =
+    let c10 = c .before .before .before .before .before .before .before .before .before .before in
+    let c20 = c10 .before .before .before .before .before .before .before .before .before .before in
+    let c30 = c20 .before .before .before .before .before .before .before .before .before .before in
+    omega (
+      arith,
+      c30 .before .before .before .before .pre,
+      c30 .put-text .ensures .1,
+      c30 .put-text .ensures .0 .long,
+      c20 .before
+          .before .before .before .before .before .put-decimal .ensures .1,
+      c20 .before .before .before .before .before .before
+          .put-decimal .ensures .0 .long,
+      c20 .before .put-text2 .ensures .1,
+      c20 .before .put-text2 .ensures .0 .long,
+      c10 .before
+          .before .before .before .before .before .before .put-decimal2 .ensures .1,
+      c10 .before .before .before .before .before .before
+          .before .put-decimal2 .ensures .0 .long,
+      c10 .before .before .put-text3 .ensures .1,
+      c10 .before .before .put-text3 .ensures .0
+          .long,
+      c .before .before .before .before .before .before .before .before .put-decimal3 .ensures .1,
+      c .before .before .before
+          .before .before .before .before .before .put-decimal3 .ensures .0 .long,
+      c .before .before .before .put-text4 .ensures .1,
+      c
+          .before .before .before .put-text4 .ensures .0 .long,
+    )
 
 put-byte-requires : tie.Need-put-byte-requires
 unfolding endBytes
-put-byte-requires c κs = omega (arith, c .before .before .before .before .before .before .before .before .before .before .before .before .before .before .before .before .before .before .before .before .before .before .before .before .before .before .before .before .before .before .before .before .before .before .before .before .before .before .pre, c .before .before .before .before .before .before .before .before .before .before .before .before .before .before .before .before .before .before .before .before .before .before .before .before .before .before .before .before .before .before .before .before .before .before .put-text .ensures .1, c .before .before .before .before .before .before .before .before .before .before .before .before .before .before .before .before .before .before .before .before .before .before .before .before .before .before .before .before .before .before .before .before .before .before .put-text .ensures .0 .long, c .before .before .before .before .before .before .before .before .before .before .before .before .before .before .before .before .before .before .before .before .before .before .before .before .before .before .before .before .before .before .put-decimal .ensures .1, c .before .before .before .before .before .before .before .before .before .before .before .before .before .before .before .before .before .before .before .before .before .before .before .before .before .before .before .before .before .before .put-decimal .ensures .0 .long, c .before .before .before .before .before .before .before .before .before .before .before .before .before .before .before .before .before .before .before .before .before .before .before .before .before .put-text2 .ensures .1, c .before .before .before .before .before .before .before .before .before .before .before .before .before .before .before .before .before .before .before .before .before .before .before .before .before .put-text2 .ensures .0 .long, c .before .before .before .before .before .before .before .before .before .before .before .before .before .before .before .before .before .before .before .before .before .put-decimal2 .ensures .1, c .before .before .before .before .before .before .before .before .before .before .before .before .before .before .before .before .before .before .before .before .before .put-decimal2 .ensures .0 .long, c .before .before .before .before .before .before .before .before .before .before .before .before .before .before .before .before .put-text3 .ensures .1, c .before .before .before .before .before .before .before .before .before .before .before .before .before .before .before .before .put-text3 .ensures .0 .long, c .before .before .before .before .before .before .before .before .before .before .before .before .put-decimal3 .ensures .1, c .before .before .before .before .before .before .before .before .before .before .before .before .put-decimal3 .ensures .0 .long, c .before .before .before .before .before .before .before .put-text4 .ensures .1, c .before .before .before .before .before .before .before .put-text4 .ensures .0 .long, c .before .before .before .put-decimal4 .ensures .1, c .before .before .before .put-decimal4 .ensures .0 .long)
+put-byte-requires c κs =
+    let c10 = c .before .before .before .before .before .before .before .before .before .before in
+    let c20 = c10 .before .before .before .before .before .before .before .before .before .before in
+    let c30 = c20 .before .before .before .before .before .before .before .before .before .before in
+    omega (
+      arith,
+      c30 .before .before .before .before .before .before .before .before .pre,
+      c30 .before .before .before .before
+          .put-text .ensures .1,
+      c30 .before .before .before .before .put-text .ensures .0 .long,
+      c30 .put-decimal .ensures .1,
+      c30
+          .put-decimal .ensures .0 .long,
+      c20 .before .before .before .before .before .put-text2 .ensures .1,
+      c20 .before .before .before
+          .before .before .put-text2 .ensures .0 .long,
+      c20 .before .put-decimal2 .ensures .1,
+      c20 .before .put-decimal2 .ensures .0
+          .long,
+      c10 .before .before .before .before .before .before .put-text3 .ensures .1,
+      c10 .before .before .before .before .before
+          .before .put-text3 .ensures .0 .long,
+      c10 .before .before .put-decimal3 .ensures .1,
+      c10 .before .before .put-decimal3 .ensures
+          .0 .long,
+      c .before .before .before .before .before .before .before .put-text4 .ensures .1,
+      c .before .before .before .before
+          .before .before .before .put-text4 .ensures .0 .long,
+      c .before .before .before .put-decimal4 .ensures .1,
+      c .before .before
+          .before .put-decimal4 .ensures .0 .long,
+    )
 
 same-length : tie.Need-same-length
 unfolding endBytes
-same-length c = c .before .before .put-byte .ensures .0 .long ∙ c .before .before .before .before .before .before .put-decimal4 .ensures .0 .long ∙ c .before .before .before .before .before .before .before .before .before .before .put-text4 .ensures .0 .long ∙ c .before .before .before .before .before .before .before .before .before .before .before .before .before .before .before .put-decimal3 .ensures .0 .long ∙ c .before .before .before .before .before .before .before .before .before .before .before .before .before .before .before .before .before .before .before .put-text3 .ensures .0 .long ∙ c .before .before .before .before .before .before .before .before .before .before .before .before .before .before .before .before .before .before .before .before .before .before .before .before .put-decimal2 .ensures .0 .long ∙ c .before .before .before .before .before .before .before .before .before .before .before .before .before .before .before .before .before .before .before .before .before .before .before .before .before .before .before .before .put-text2 .ensures .0 .long ∙ c .before .before .before .before .before .before .before .before .before .before .before .before .before .before .before .before .before .before .before .before .before .before .before .before .before .before .before .before .before .before .before .before .before .put-decimal .ensures .0 .long ∙ c .before .before .before .before .before .before .before .before .before .before .before .before .before .before .before .before .before .before .before .before .before .before .before .before .before .before .before .before .before .before .before .before .before .before .before .before .before .put-text .ensures .0 .long
+same-length c =
+    let c10 = c .before .before .before .before .before .before .before .before .before .before in
+    let c20 = c10 .before .before .before .before .before .before .before .before .before .before in
+    let c30 = c20 .before .before .before .before .before .before .before .before .before .before in
+    c .before .before .put-byte .ensures .0 .long ∙ c .before .before .before .before .before .before .put-decimal4 .ensures .0
+    .long ∙ c10 .put-text4 .ensures .0 .long ∙ c10 .before .before .before .before .before .put-decimal3 .ensures .0 .long ∙ c10
+    .before .before .before .before .before .before .before .before .before .put-text3 .ensures .0 .long ∙ c20 .before .before
+    .before .before .put-decimal2 .ensures .0 .long ∙ c20 .before .before .before .before .before .before .before .before .put-text2
+    .ensures .0 .long ∙ c30 .before .before .before .put-decimal .ensures .0 .long ∙ c30 .before .before .before .before .before
+    .before .before .put-text .ensures .0 .long
 
 returns : tie.Need-returns
 unfolding endBytes
-returns c = (wrote-then (wrote-then (wrote-then (wrote-then (wrote-then (wrote-then (wrote-then (wrote-then (c .before .before .before .before .before .before .before .before .before .before .before .before .before .before .before .before .before .before .before .before .before .before .before .before .before .before .before .before .before .before .before .before .before .before .before .before .before .put-text .ensures .0) (c .before .before .before .before .before .before .before .before .before .before .before .before .before .before .before .before .before .before .before .before .before .before .before .before .before .before .before .before .before .before .before .before .before .put-decimal .ensures .0)) (c .before .before .before .before .before .before .before .before .before .before .before .before .before .before .before .before .before .before .before .before .before .before .before .before .before .before .before .before .put-text2 .ensures .0)) (c .before .before .before .before .before .before .before .before .before .before .before .before .before .before .before .before .before .before .before .before .before .before .before .before .put-decimal2 .ensures .0)) (c .before .before .before .before .before .before .before .before .before .before .before .before .before .before .before .before .before .before .before .put-text3 .ensures .0)) (c .before .before .before .before .before .before .before .before .before .before .before .before .before .before .before .put-decimal3 .ensures .0)) (c .before .before .before .before .before .before .before .before .before .before .put-text4 .ensures .0)) (c .before .before .before .before .before .before .put-decimal4 .ensures .0)) (c .before .before .put-byte .ensures .0), omega (arith, c .before .before .before .before .before .before .before .before .before .before .before .before .before .before .before .before .before .before .before .before .before .before .before .before .before .before .before .before .before .before .before .before .before .before .before .before .before .put-text .ensures .1, c .before .before .before .before .before .before .before .before .before .before .before .before .before .before .before .before .before .before .before .before .before .before .before .before .before .before .before .before .before .before .before .before .before .before .before .before .before .put-text .ensures .0 .long, c .before .before .before .before .before .before .before .before .before .before .before .before .before .before .before .before .before .before .before .before .before .before .before .before .before .before .before .before .before .before .before .before .before .put-decimal .ensures .1, c .before .before .before .before .before .before .before .before .before .before .before .before .before .before .before .before .before .before .before .before .before .before .before .before .before .before .before .before .before .before .before .before .before .put-decimal .ensures .0 .long, c .before .before .before .before .before .before .before .before .before .before .before .before .before .before .before .before .before .before .before .before .before .before .before .before .before .before .before .before .put-text2 .ensures .1, c .before .before .before .before .before .before .before .before .before .before .before .before .before .before .before .before .before .before .before .before .before .before .before .before .before .before .before .before .put-text2 .ensures .0 .long, c .before .before .before .before .before .before .before .before .before .before .before .before .before .before .before .before .before .before .before .before .before .before .before .before .put-decimal2 .ensures .1, c .before .before .before .before .before .before .before .before .before .before .before .before .before .before .before .before .before .before .before .before .before .before .before .before .put-decimal2 .ensures .0 .long, c .before .before .before .before .before .before .before .before .before .before .before .before .before .before .before .before .before .before .before .put-text3 .ensures .1, c .before .before .before .before .before .before .before .before .before .before .before .before .before .before .before .before .before .before .before .put-text3 .ensures .0 .long, c .before .before .before .before .before .before .before .before .before .before .before .before .before .before .before .put-decimal3 .ensures .1, c .before .before .before .before .before .before .before .before .before .before .before .before .before .before .before .put-decimal3 .ensures .0 .long, c .before .before .before .before .before .before .before .before .before .before .put-text4 .ensures .1, c .before .before .before .before .before .before .before .before .before .before .put-text4 .ensures .0 .long, c .before .before .before .before .before .before .put-decimal4 .ensures .1, c .before .before .before .before .before .before .put-decimal4 .ensures .0 .long, c .before .before .put-byte .ensures .1, c .before .before .put-byte .ensures .0 .long))
+returns c =
+    let c10 = c .before .before .before .before .before .before .before .before .before .before in
+    let c20 = c10 .before .before .before .before .before .before .before .before .before .before in
+    let c30 = c20 .before .before .before .before .before .before .before .before .before .before in (
+      wrote-then (wrote-then (wrote-then (wrote-then (wrote-then (wrote-then (wrote-then (wrote-then (c30 .before .before .before
+          .before .before .before .before .put-text .ensures .0) (c30 .before .before .before .put-decimal .ensures .0)) (c20 .before
+          .before .before .before .before .before .before .before .put-text2 .ensures .0)) (c20 .before .before .before .before
+          .put-decimal2 .ensures .0)) (c10 .before .before .before .before .before .before .before .before .before .put-text3 .ensures
+          .0)) (c10 .before .before .before .before .before .put-decimal3 .ensures .0)) (c10 .put-text4 .ensures .0)) (c .before .before
+          .before .before .before .before .put-decimal4 .ensures .0)) (c .before .before .put-byte .ensures .0),
+      omega (
+        arith,
+        c30 .before
+            .before .before .before .before .before .before .put-text .ensures .1,
+        c30 .before .before .before .before .before .before
+            .before .put-text .ensures .0 .long,
+        c30 .before .before .before .put-decimal .ensures .1,
+        c30 .before .before .before
+            .put-decimal .ensures .0 .long,
+        c20 .before .before .before .before .before .before .before .before .put-text2 .ensures .1,
+        c20
+            .before .before .before .before .before .before .before .before .put-text2 .ensures .0 .long,
+        c20 .before .before .before
+            .before .put-decimal2 .ensures .1,
+        c20 .before .before .before .before .put-decimal2 .ensures .0 .long,
+        c10 .before .before
+            .before .before .before .before .before .before .before .put-text3 .ensures .1,
+        c10 .before .before .before .before .before
+            .before .before .before .before .put-text3 .ensures .0 .long,
+        c10 .before .before .before .before .before .put-decimal3 .ensures
+            .1,
+        c10 .before .before .before .before .before .put-decimal3 .ensures .0 .long,
+        c10 .put-text4 .ensures .1,
+        c10 .put-text4
+            .ensures .0 .long,
+        c .before .before .before .before .before .before .put-decimal4 .ensures .1,
+        c .before .before .before
+            .before .before .before .put-decimal4 .ensures .0 .long,
+        c .before .before .put-byte .ensures .1,
+        c .before .before .put-byte
+            .ensures .0 .long,
+      ),
+    )
 
 pub put-end-spec : {M : Type 1} → statement M
 put-end-spec =

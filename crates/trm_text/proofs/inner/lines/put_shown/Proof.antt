@@ -1,14 +1,9 @@
 -- The proof of trm_text::inner::lines::put_shown.
 use native.Mathlib.Omega.{arith}
-use mathlib.Core.Path.{sym, ap, _∙_, subst}
 use Rattle.trm_text.specs.Lines.{shownBytes}
 use borrow.Author.Needs.{needs}
 use Rattle.trm_text.proofs.inner.lines.put_shown.Statement.{statement}
 use Rattle.trm_text.proofs.inner.lines.put_shown.Tie as tie
-use Rattle.trm_text.proofs.inner.lines.put_shown.Reads as reads
-use Rattle.trm_text.proofs.inner.lines.put_shown.Lts as lts
-use Rattle.trm_text.proofs.inner.lines.put_text.Reads as put-text-reads
-use Rattle.trm_text.proofs.inner.numbers.put_hex.Reads as put-hex-reads
 
 enum-known-shown : tie.Need-enum-known-shown
 enum-known-shown c = search needs
@@ -42,21 +37,45 @@ same-length c = search needs
 
 returns : tie.Need-returns
 unfolding shownBytes
-returns c = rw (c .before .before .before .before .before .shown .given .1) (c .before .before .put-hex .ensures .0, omega (arith, c .before .before .put-hex .ensures .1))
+returns c =
+    rw (c .before .before .before .before .before .shown .given .1) (
+      c .before .before .put-hex .ensures .0,
+      omega (
+        arith,
+        c .before
+            .before .put-hex .ensures .1,
+      ),
+    )
 
 same-length-2 : tie.Need-same-length-2
 same-length-2 c = search needs
 
 returns-2 : tie.Need-returns-2
 unfolding shownBytes
-returns-2 c = rw (c .before .before .before .before .before .enum-told .given .1) (c .before .before .put-text .ensures .0, omega (arith, c .before .before .put-text .ensures .1))
+returns-2 c =
+    rw (c .before .before .before .before .before .enum-told .given .1) (
+      c .before .before .put-text .ensures .0,
+      omega (
+        arith,
+        c
+            .before .before .put-text .ensures .1,
+      ),
+    )
 
 same-length-3 : tie.Need-same-length-3
 same-length-3 c = search needs
 
 returns-3 : tie.Need-returns-3
 unfolding shownBytes
-returns-3 c = rw (c .before .before .before .before .before .enum-told2 .given .1) (c .before .before .put-text2 .ensures .0, omega (arith, c .before .before .put-text2 .ensures .1))
+returns-3 c =
+    rw (c .before .before .before .before .before .enum-told2 .given .1) (
+      c .before .before .put-text2 .ensures .0,
+      omega (
+        arith,
+        c
+            .before .before .put-text2 .ensures .1,
+      ),
+    )
 
 pub put-shown-spec : {M : Type 1} → statement M
 put-shown-spec =

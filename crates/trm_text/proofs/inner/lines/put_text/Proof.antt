@@ -7,8 +7,6 @@ use Rattle.trm_text.proofs.Laws.Wrote.{wrote-start, wrote-more, wrote-a
 use borrow.Author.Needs.{needs}
 use Rattle.trm_text.proofs.inner.lines.put_text.Statement.{statement}
 use Rattle.trm_text.proofs.inner.lines.put_text.Tie as tie
-use Rattle.trm_text.proofs.inner.lines.put_text.Reads as reads
-use Rattle.trm_text.proofs.inner.lines.put_text.Lts as lts
 
 abbrev Inv-loop : tie.InvT-loop
 Inv-loop buf₀ at text i₀ buf i = (i ≤ length text) × Wrote buf₀ at (take i text) buf (at + i)
@@ -35,7 +33,15 @@ loop-less : tie.Need-loop-less Inv-loop μ-loop
 loop-less c = search needs
 
 loop-again : tie.Need-loop-again Inv-loop μ-loop
-loop-again c = (omega arith, wrote-more _ _ (c .before .loop-test .taken) (c .before .before .loop .inv .1) (omega (arith, c .before .before .before .pre, c .before .before .loop .inv .1 .long)))
+loop-again c = (
+  omega arith,
+  wrote-more _ _ (c .before .loop-test .taken) (c .before .before .loop .inv .1) (omega (
+    arith,
+    c .before .before
+        .before .pre,
+    c .before .before .loop .inv .1 .long,
+  )),
+)
 
 add-result : tie.Need-add-result Inv-loop μ-loop
 add-result c = search needs

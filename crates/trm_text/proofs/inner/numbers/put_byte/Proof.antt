@@ -4,8 +4,6 @@ use Rattle.trm_text.proofs.Laws.Wrote.{wrote-one}
 use borrow.Author.Needs.{needs}
 use Rattle.trm_text.proofs.inner.numbers.put_byte.Statement.{statement}
 use Rattle.trm_text.proofs.inner.numbers.put_byte.Tie as tie
-use Rattle.trm_text.proofs.inner.numbers.put_byte.Reads as reads
-use Rattle.trm_text.proofs.inner.numbers.put_byte.Lts as lts
 
 slice-write-buf : tie.Need-slice-write-buf
 slice-write-buf c = search needs

@@ -5,10 +5,6 @@ use Rattle.trm_text.proofs.Laws.Digits.{digits-long}
 use borrow.Author.Needs.{needs}
 use Rattle.trm_text.proofs.inner.numbers.put_decimal.Statement.{statement}
 use Rattle.trm_text.proofs.inner.numbers.put_decimal.Tie as tie
-use Rattle.trm_text.proofs.inner.numbers.put_decimal.Reads as reads
-use Rattle.trm_text.proofs.inner.numbers.put_decimal.Lts as lts
-use Rattle.trm_text.proofs.inner.numbers.places.Reads as places-reads
-use Rattle.trm_text.proofs.inner.numbers.spell.Reads as spell-reads
 
 places-requires : tie.Need-places-requires
 places-requires c κs = search needs
@@ -22,7 +18,18 @@ same-length c = search needs
 
 returns : tie.Need-returns
 unfolding decimal
-returns c = rw (← c .before .before .before .before .places .ensures .0) (c .before .before .spell .ensures, omega (arith, c .before .before .before .before .places .ensures .1, c .before .before .spell .ensures .next, digits-long 10 (c .before .before .before .before .places .result) (c .before .before .before .before .before .before .args .n)))
+returns c =
+    rw (← c .before .before .before .before .places .ensures .0) (
+      c .before .before .spell .ensures,
+      omega (
+        arith,
+        c .before .before
+            .before .before .places .ensures .1,
+        c .before .before .spell .ensures .next,
+        digits-long 10 (c .before .before .before .before
+            .places .result) (c .before .before .before .before .before .before .args .n),
+      ),
+    )
 
 pub put-decimal-spec : {M : Type 1} → statement M
 put-decimal-spec = tie.close (tie.spec places-requires spell-requires same-length returns)

@@ -5,9 +5,6 @@ use Rattle.trm_text.proofs.Laws.Digits.{digits-long}
 use borrow.Author.Needs.{needs}
 use Rattle.trm_text.proofs.inner.numbers.put_hex.Statement.{statement}
 use Rattle.trm_text.proofs.inner.numbers.put_hex.Tie as tie
-use Rattle.trm_text.proofs.inner.numbers.put_hex.Reads as reads
-use Rattle.trm_text.proofs.inner.numbers.put_hex.Lts as lts
-use Rattle.trm_text.proofs.inner.numbers.spell.Reads as spell-reads
 
 spell-requires : tie.Need-spell-requires
 unfolding hex
@@ -18,7 +15,15 @@ same-length c = search needs
 
 returns : tie.Need-returns
 unfolding hex
-returns c = (c .before .before .spell .ensures, omega (arith, c .before .before .spell .ensures .next, digits-long 16 (c .before .before .before .before .before .args .k) (c .before .before .before .before .before .args .n)))
+returns c = (
+  c .before .before .spell .ensures,
+  omega (
+    arith,
+    c .before .before .spell .ensures .next,
+    digits-long 16 (c .before .before
+        .before .before .before .args .k) (c .before .before .before .before .before .args .n),
+  ),
+)
 
 pub put-hex-spec : {M : Type 1} → statement M
 put-hex-spec = tie.close (tie.spec spell-requires same-length returns)

@@ -1,14 +1,10 @@
 -- The proof of trm_text::inner::numbers::spell.
 use native.Mathlib.Nat.{mod-lt}
 use native.Mathlib.Omega.{arith}
-use mathlib.Core.Path.{sym}
-use Rattle.trm_text.proofs.Laws.Digits.{Spelt, spelt-none, spelt-more, spelt-all, spelt-end}
+use Rattle.trm_text.proofs.Laws.Digits.{Spelt, spelt-none, spelt-more, spelt-end}
 use borrow.Author.Needs.{needs}
 use Rattle.trm_text.proofs.inner.numbers.spell.Statement.{statement}
 use Rattle.trm_text.proofs.inner.numbers.spell.Tie as tie
-use Rattle.trm_text.proofs.inner.numbers.spell.Reads as reads
-use Rattle.trm_text.proofs.inner.numbers.spell.Lts as lts
-use Rattle.trm_text.proofs.inner.numbers.glyph.Reads as glyph-reads
 
 abbrev Inv-loop : tie.InvT-loop
 Inv-loop buf₀ at k n base i₀ rest₀ buf i rest = Spelt buf₀ at k n base i rest buf
@@ -26,13 +22,15 @@ rem-glyph : tie.Need-rem-glyph Inv-loop μ-loop
 rem-glyph c = omega (arith, c .before .before .before .pre .1)
 
 glyph-requires : tie.Need-glyph-requires Inv-loop μ-loop
-glyph-requires c κs = omega (arith, c .before .before .before .pre .2, mod-lt (c .before .loop .rest) (c .before .before .before .pre .1))
+glyph-requires c κs =
+    omega (arith, c .before .before .before .pre .2, mod-lt (c .before .loop .rest) (c .before .before .before .pre .1))
 
 add-buf : tie.Need-add-buf Inv-loop μ-loop
 add-buf c = search needs
 
 slice-write-buf : tie.Need-slice-write-buf Inv-loop μ-loop
-slice-write-buf c = omega (arith, c .before .before .loop .inv .below, c .before .before .loop .inv .room, c .before .before .loop .inv .long)
+slice-write-buf c =
+    omega (arith, c .before .before .loop .inv .below, c .before .before .loop .inv .room, c .before .before .loop .inv .long)
 
 div-rest : tie.Need-div-rest Inv-loop μ-loop
 div-rest c = search needs

@@ -9,22 +9,18 @@ use Rattle.trm_clock.proofs.Laws.Words.{call-left, other-made}
 use borrow.Author.Needs.{needs}
 use Rattle.trm_walk.proofs.inner.first.first_clock.Statement.{statement}
 use Rattle.trm_walk.proofs.inner.first.first_clock.Tie as tie
-use Rattle.trm_walk.proofs.inner.first.first_clock.Reads as reads
-use Rattle.trm_walk.proofs.inner.first.first_clock.Lts as lts
-use Rattle.trm_clock.proofs.inner.outcome.carried.Reads as carried-reads
-use Rattle.trm_clock.proofs.inner.outcome.enters.Reads as enters-reads
-use Rattle.trm_clock.proofs.inner.ready.first_arithmetic.Reads as first-arithmetic-reads
-use Rattle.trm_clock.proofs.inner.ready.first_control.Reads as first-control-reads
-use Rattle.trm_clock.proofs.inner.ready.first_store.Reads as first-store-reads
-use Rattle.trm_execute.proofs.inner.words.short.Reads as short-reads
-use Rattle.trm_walk.proofs.inner.first.first_branch.Reads as first-branch-reads
-use Rattle.trm_walk.proofs.inner.first.first_load.Reads as first-load-reads
 
 short-requires : tie.Need-short-requires
 short-requires c κs =
     let g = c .before .before .before .pre in
-    let o = c .before .if1 .taken in
-    (g .0 .widths, g .0 .counts, idle-running _ _ _ _ _ (facts _ _ _ _ _ (g .0)) (g .1), omega (arith, o), unstepped-of _ (λ z. omega (arith, o, z)) (λ z. omega (arith, o, z)))
+    let o = c .before .if1 .taken in (
+      g .0 .widths,
+      g .0 .counts,
+      idle-running _ _ _ _ _ (facts _ _ _ _ _ (g .0)) (g .1),
+      omega (arith, o),
+      unstepped-of _
+          (λ z. omega (arith, o, z)) (λ z. omega (arith, o, z)),
+    )
 
 carried-requires : tie.Need-carried-requires
 carried-requires c κs = search needs
@@ -33,8 +29,10 @@ returns : tie.Need-returns
 returns c =
     let g = c .before .before .before .before .before .pre in
     let o = c .before .before .before .if1 .taken in
-    ends-worked _ _ _ _ _ _ _ (first-quick _ _ _ _ _ (facts _ _ _ _ _ (g .0)) (g .1) (kind-short _ _ _ (omega (arith, o)) (unstepped-of _ (λ z. omega (arith, o, z)) (λ z. omega (arith, o, z)))) .0) _
-    (other-made _ _ _ _ _ _ _ (λ z. omega (arith, o, z)) (λ z. omega (arith, o, z)) (λ z. omega (arith, o, z)) _ _ _ (c .carried .ensures) (c .before .short .ensures .0) (c .before .short .ensures .1))
+    ends-worked _ _ _ _ _ _ _ (first-quick _ _ _ _ _ (facts _ _ _ _ _ (g .0)) (g .1) (kind-short _ _ _ (omega (arith, o))
+    (unstepped-of _ (λ z. omega (arith, o, z)) (λ z. omega (arith, o, z)))) .0) _
+    (other-made _ _ _ _ _ _ _ (λ z. omega (arith, o, z)) (λ z. omega (arith, o, z)) (λ z. omega (arith, o, z)) _ _ _
+    (c .carried .ensures) (c .before .short .ensures .0) (c .before .short .ensures .1))
 
 first-control-requires : tie.Need-first-control-requires
 first-control-requires c κs = search needs
@@ -87,7 +85,8 @@ returns-6 c = search needs
 returns-7 : tie.Need-returns-7
 returns-7 c =
     let o = call-left (c .before .before .before .before .before .args .w) (c .before .if2 .left) (c .before .before .match .rest) in
-    goes-worked _ _ _ _ _ _ _ _ (first-second _ _ _ _ _ (facts _ _ _ _ _ (c .before .before .before .before .before .pre .0)) (c .before .before .before .before .before .pre .1) (kind-call _ _ _ o)) _ _ _ _ _ _ (c .enters .ensures) refl
+    goes-worked _ _ _ _ _ _ _ _ (first-second _ _ _ _ _ (facts _ _ _ _ _ (c .before .before .before .before .before .pre .0))
+    (c .before .before .before .before .before .pre .1) (kind-call _ _ _ o)) _ _ _ _ _ _ (c .enters .ensures) refl
 
 pub first-clock-spec : {M : Type 1} → statement M
 first-clock-spec =

@@ -6,13 +6,6 @@ use Rattle.trm_clock.proofs.Laws.Worked.{ends-worked}
 use borrow.Author.Needs.{needs}
 use Rattle.trm_walk.proofs.inner.flight.flight_clock.Statement.{statement}
 use Rattle.trm_walk.proofs.inner.flight.flight_clock.Tie as tie
-use Rattle.trm_walk.proofs.inner.flight.flight_clock.Reads as reads
-use Rattle.trm_walk.proofs.inner.flight.flight_clock.Lts as lts
-use Rattle.trm_clock.proofs.inner.flight.next_fill.Reads as next-fill-reads
-use Rattle.trm_clock.proofs.inner.flight.next_step.Reads as next-step-reads
-use Rattle.trm_clock.proofs.inner.flight.next_wait.Reads as next-wait-reads
-use Rattle.trm_clock.proofs.inner.flight.next_write.Reads as next-write-reads
-use Rattle.trm_clock.proofs.inner.last.last_clock.Reads as last-clock-reads
 
 next-step-requires : tie.Need-next-step-requires
 next-step-requires c κs = search needs
@@ -28,8 +21,12 @@ next-wait-requires c κs = search needs
 
 last-clock-requires : tie.Need-last-clock-requires
 last-clock-requires c κs =
-    let n = c .before .before .before .before .before .before .match .rest in
-    (c .before .before .before .before .before .before .before .before .pre .0, late _ _ _ _ _ (facts _ _ _ _ _ (c .before .before .before .before .before .before .before .before .pre .0)) (c .before .before .before .before .before .before .before .before .pre .1) (n .0 .0 .0 .1) (n .0 .0 .1) (n .0 .1) (n .1))
+    let n = c .before .before .before .before .before .before .match .rest in (
+      c .before .before .before .before .before .before .before .before .pre .0,
+      late _ _ _ _ _ (facts _ _ _ _ _
+          (c .before .before .before .before .before .before .before .before .pre .0))
+          (c .before .before .before .before .before .before .before .before .pre .1) (n .0 .0 .0 .1) (n .0 .0 .1) (n .0 .1) (n .1),
+    )
 
 same-length : tie.Need-same-length
 same-length c = search needs
@@ -61,7 +58,10 @@ same-length-5 c = search needs
 returns-5 : tie.Need-returns-5
 returns-5 c =
     let n = c .before .before .before .before .before .before .before .before .before .match .rest in
-    ends-worked _ _ _ _ _ _ _ (due-ends _ _ _ _ _ (facts _ _ _ _ _ (c .before .before .before .before .before .before .before .before .before .before .before .pre .0)) (c .before .before .before .before .before .before .before .before .before .before .before .pre .1) (n .0 .0 .0 .1) (n .0 .0 .1) (n .0 .1) (n .1) .0) _ (c .before .before .last-clock .ensures)
+    ends-worked _ _ _ _ _ _ _ (due-ends _ _ _ _ _ (facts _ _ _ _ _
+    (c .before .before .before .before .before .before .before .before .before .before .before .pre .0))
+    (c .before .before .before .before .before .before .before .before .before .before .before .pre .1) (n .0 .0 .0 .1)
+    (n .0 .0 .1) (n .0 .1) (n .1) .0) _ (c .before .before .last-clock .ensures)
 
 pub flight-clock-spec : {M : Type 1} → statement M
 flight-clock-spec =

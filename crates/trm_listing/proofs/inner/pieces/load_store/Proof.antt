@@ -1,17 +1,11 @@
--- The proof of trm_listing::listing::load_store.
-use mathlib.Core.Path.{refl, sym, ap, _∙_}
+-- The proof of trm_listing::inner::pieces::load_store.
+use mathlib.Core.Path.{sym, ap, _∙_}
 use native.Mathlib.Omega.{arith}
 use Prim.Native.Nat.{_+_}
-use Rattle.trm_image.specs.Records.{kindAt}
-use Rattle.trm_listing.proofs.Laws.Load.{head, loaded-third, loaded-second, second, second-fits}
+use Rattle.trm_listing.proofs.Laws.Load.{head, loaded-third, loaded-second, second-fits}
 use borrow.Author.Needs.{needs}
-use Rattle.trm_listing.proofs.listing.load_store.Statement.{statement}
-use Rattle.trm_listing.proofs.listing.load_store.Tie as tie
-use Rattle.trm_listing.proofs.listing.load_store.Reads as reads
-use Rattle.trm_listing.proofs.listing.load_store.Lts as lts
-use Rattle.trm_image.proofs.inner.bytes.half_at.Reads as half-at-reads
-use Rattle.trm_image.proofs.inner.bytes.word_at.Reads as word-at-reads
-use Rattle.trm_image.proofs.inner.words.load_words.Reads as load-words-reads
+use Rattle.trm_listing.proofs.inner.pieces.load_store.Statement.{statement}
+use Rattle.trm_listing.proofs.inner.pieces.load_store.Tie as tie
 
 word-at-requires : tie.Need-word-at-requires
 word-at-requires c κs = search needs
@@ -30,8 +24,12 @@ half-at-requires c κs = search needs
 
 load-words-requires : tie.Need-load-words-requires
 load-words-requires c κs =
-    let h = head _ _ (c .before .before .before .before .before .before .pre) in
-    (omega (arith, c .before .before .before .word-at .ensures, h .long), omega arith, omega (arith, c .before .before .before .before .before .before .pre .long))
+    let h = head _ _ (c .before .before .before .before .before .before .pre) in (
+      omega (arith, c .before .before .before .word-at .ensures, h .long),
+      omega arith,
+      omega
+          (arith, c .before .before .before .before .before .before .pre .long),
+    )
 
 same-length : tie.Need-same-length
 same-length c = search needs
@@ -55,8 +53,14 @@ load-words-requires-2 : tie.Need-load-words-requires-2
 load-words-requires-2 c κs =
     let h = head _ _ (c .before .before .before .before .before .before .before .pre) in
     let k = sym (c .before .before .before .half-at .ensures) ∙ c .before .before .if1 .left in
-    let f = second-fits _ _ (c .before .before .before .before .before .before .before .pre) _ (ap (λ k. 6 + k) (c .before .before .before .before .word-at .ensures)) k in
-    (omega (arith, c .before .before .before .before .word-at .ensures, h .long), omega (arith, c .before .word-at2 .ensures, f, c .before .before .before .before .before .before .before .pre .long), omega (arith, c .before .before .before .before .before .before .before .pre .long))
+    let f = second-fits _ _ (c .before .before .before .before .before .before .before .pre) _ (ap (λ k. 6 + k)
+    (c .before .before .before .before .word-at .ensures)) k in (
+      omega (arith, c .before .before .before .before .word-at .ensures, h .long),
+      omega
+          (arith, c .before .word-at2 .ensures, f, c .before .before .before .before .before .before .before .pre .long),
+      omega
+          (arith, c .before .before .before .before .before .before .before .pre .long),
+    )
 
 add-result : tie.Need-add-result
 add-result c = search needs
@@ -69,8 +73,11 @@ same-length-2 c = search needs
 
 returns-2 : tie.Need-returns-2
 returns-2 c =
-    let k = sym (c .before .before .before .before .before .before .half-at .ensures) ∙ c .before .before .before .before .before .if1 .left in
-    loaded-second _ _ (c .before .before .before .before .before .before .before .before .before .before .pre) _ (ap (λ k. 6 + k) (c .before .before .before .before .before .before .before .word-at .ensures)) k _ (c .before .before .before .before .word-at2 .ensures) _ (c .before .before .load-words2 .ensures)
+    let k = sym (c .before .before .before .before .before .before .half-at .ensures) ∙ c .before .before .before .before .before
+    .if1 .left in
+    loaded-second _ _ (c .before .before .before .before .before .before .before .before .before .before .pre) _ (ap (λ k. 6 + k)
+    (c .before .before .before .before .before .before .before .word-at .ensures)) k _
+    (c .before .before .before .before .word-at2 .ensures) _ (c .before .before .load-words2 .ensures)
 
 pub load-store-spec : {M : Type 1} → statement M
 load-store-spec =

@@ -111,7 +111,8 @@ pub fn next_piece(
     buf: &mut [u8],
 ) -> Listing
     requires { ⌜ Ready (now image) (now program) (now store) l × (128 ≤ length (now buf)) ⌝ }
-    ensures { λ r. ⌜ PieceHolds (now (image .entry)) (now (program .entry)) (now (store .entry)) (now (buf .entry)) l r (now (store .exit)) (now (buf .exit)) ⌝ }
+    ensures { λ r. ⌜ PieceHolds (now (image .entry)) (now (program .entry)) (now (store .entry)) (now (buf .entry)) l r
+        (now (store .exit)) (now (buf .exit)) ⌝ }
 {
     let m = l.machine;
     if l.over {
