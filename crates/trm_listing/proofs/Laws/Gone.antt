@@ -137,7 +137,7 @@ module _ (p : List ℕ) (i : Pins) where
           so = begun;
         }
 
-        module _ (f : stalled (i .line) ≡ false) (z : l .scalars .running .phase ≢ 0) (fits : l .len ≤ length b) (w : ℕ)
+        module _ (f : stalled (i .line) ≡ false) (z : l .scalars .running .phase ≢ 0) (w : ℕ)
             (at : w ≡ wordAt p (l .scalars .pc)) (q : Point)
             (quietly : Quietly ls w (record { lent = x; finished = 0; at = 0 }) q) (none : q .finished ≡ 0) where
           r : Reached p (replicate m (i .line)) (replicate m (i .input)) x q (replicate (length (replicate m (i .line))) 0)
@@ -163,9 +163,9 @@ module _ (p : List ℕ) (i : Pins) where
           all : q .at + (l .left - q .at) ≡ l .left
           all = omega (arith, gone-below, le)
 
-          pub onward-gone : Onward p i l x b
+          pub onward-gone : l .len ≤ length b → Onward p i l x b
               (record { scalars = q .lent .machine .scalars; left = l .left - q .at; took = l .took + q .at; len = l .len }) (q .lent) b
-          onward-gone = record {
+          onward-gone fits = record {
             able = record {
               program = r .program;
               store = r .store;

@@ -4,7 +4,8 @@
 ghost use mathlib.Core.Path.{_≡_};
 ghost use mathlib.Core.Logic.{_≢_};
 ghost use mathlib.Core.Bool.{false};
-ghost use Prim.Native.Nat.{_+_, _≤_, _<_};
+ghost use mathlib.Core.List.{List};
+ghost use Prim.Native.Nat.{ℕ, _+_, _≤_, _<_};
 ghost use lib.ListN.{length};
 ghost use Rattle.trm_word.specs.Charge.{charges};
 ghost use Rattle.trm_reference.specs.Interrupt.{stalled, interruptChosen};
@@ -20,12 +21,66 @@ use trm_walk::inner::flight;
 
 // The smaller of two.
 fn least(a: usize, b: usize) -> usize
-    ensures { λ r. ⌜ (r ≤ a) × (r ≤ b) × (0 < a → 0 < b → 0 < r) ⌝ }
+    ensures { λ r. ⌜ (r ≤ a) × (r ≤ b) ⌝ }
 {
     if a < b {
         return a;
     }
     b
+}
+
+// A word in flight: the clocks that cannot be its last, one after another.
+fn gone_ahead(
+    l: Listed,
+    program: &[u32],
+    regs: &[u32; 16],
+    full: &[u8; 16],
+    dirty: &[u8; 16],
+    block: &[u16; 16],
+    words: &mut [u32; 128],
+    store: &mut [u32],
+    line: u8,
+    input: u32,
+    base: &[u64; 16],
+) -> Listed
+    requires { ⌜ Able (now program) (lentOf l (now regs) (cache (now full) (now dirty) (now block) (now words)) (now store))
+        (l .took) (l .left) (record { line = line; input = input })
+        × (stalled line ≡ false) × (l .scalars .running .phase ≢ 0) × (now base ≡ charges) ⌝ }
+    ensures { λ r. ⌜ ((b : List ℕ) → l .len ≤ length b → Onward (now (program .entry)) (record { line = line; input = input })
+        l (lentOf l (now (regs .entry)) (cache (now (full .entry)) (now (dirty .entry)) (now (block .entry)) (now (words .entry)))
+        (now (store .entry))) b
+        r (lentOf r (now (regs .entry)) (cache (now (full .entry)) (now (dirty .entry)) (now (block .entry)) (now (words .exit)))
+        (now (store .exit))) b)
+        × (r .scalars .pc ≡ l .scalars .pc) × (r .scalars .running .phase ≢ 0) × (r .len ≡ l .len) ⌝ }
+{
+    let c = l.scalars;
+    let w = reading::word_at(program, c.pc);
+    let lines = [line; 64];
+    let m = least(l.left, 64);
+    let g = Going {
+        scalars: c,
+        at: 0,
+        finished: 0,
+    };
+    let h = flight::flight_ahead(
+        g,
+        regs,
+        full,
+        dirty,
+        block,
+        words,
+        store,
+        w,
+        &lines[..m],
+        base,
+    );
+    let ahead = h.scalars;
+    Listed {
+        scalars: ahead,
+        left: l.left - h.at,
+        took: l.took + h.at as u64,
+        len: l.len,
+    }
 }
 
 // A word in flight: the clocks that cannot be its last, and one more.
@@ -53,50 +108,25 @@ fn goes_on(
         r (lentOf r (now (regs .exit)) (cache (now (full .exit)) (now (dirty .exit)) (now (block .exit)) (now (words .exit)))
         (now (store .exit))) (now (buf .exit)) × (r .left < l .left) ⌝ }
 {
-    let c = l.scalars;
-    let w = reading::word_at(program, c.pc);
-    let lines = [line; 64];
-    let m = least(l.left, 64);
-    let g = Going {
-        scalars: c,
-        at: 0,
-        finished: 0,
-    };
-    let h = flight::flight_ahead(
-        g,
+    let gone = gone_ahead(
+        l,
+        program,
         regs,
         full,
         dirty,
         block,
         words,
         store,
-        w,
-        &lines[..m],
-        base,
-    );
-    let k = h.at;
-    let ahead = h.scalars;
-    let gone = Listed {
-        scalars: ahead,
-        left: l.left - k,
-        took: l.took + k as u64,
-        len: l.len,
-    };
-    if k == m {
-        return gone;
-    }
-    let r = flight::flight_clock(
-        ahead,
-        regs,
-        full,
-        dirty,
-        block,
-        words,
-        store,
-        w,
+        line,
         input,
         base,
     );
+    if gone.left == 0 {
+        return gone;
+    }
+    let c = gone.scalars;
+    let w = reading::word_at(program, c.pc);
+    let r = flight::flight_clock(c, regs, full, dirty, block, words, store, w, input, base);
     listed::went(gone, r, w, buf)
 }
 

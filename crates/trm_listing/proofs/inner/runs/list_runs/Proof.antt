@@ -66,7 +66,8 @@ run-here-requires-2 c κs =
     let c10 = c .before .before .before .before .before .before .before .before .before .before in
     let c20 = c10 .before .before .before .before .before .before .before .before .before .before in (
       along-next _ _ _ _ _ _ _ _ (c .before .before .before .before .before .before .before .next-run .ensures) (c10 .before .before
-          .loop .inv .0 .stands) (c .before .before .before .before .before .before .before .before .if2 .left) (c10 .if1 .taken) .stands,
+          .loop .inv .0 .stands) (c .before .before .before .before .before .before .before .before .if2 .left)
+          (c10 .if1 .taken) .stands,
       c20 .before .before .before .before .before .before .before .before .before .pre .1,
     )
 
@@ -86,7 +87,8 @@ loop-again c =
     let c10 = c .before .before .before .before .before .before .before .before .before .before in (
       along-then _ _ (c10 .before .before .before .before .before .before .before .loop .inv .0) (along-then _ _ (along-next _ _ _ _
           _ _ _ _ (c10 .before .before .next-run .ensures) (c10 .before .before .before .before .before .before .before .loop .inv .0
-          .stands) (c10 .before .before .before .if2 .left) (c10 .before .before .before .before .before .if1 .taken)) (c .before .before
+          .stands) (c10 .before .before .before .if2 .left) (c10 .before .before .before .before .before .if1 .taken))
+          (c .before .before
           .before .before .run-here2 .ensures .0)),
       λ z. omega (
         arith,
