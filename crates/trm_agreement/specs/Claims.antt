@@ -150,7 +150,7 @@ abbrev pub ResetKept : Type 0
 ResetKept =
     (G : Geometry) (p s : List ℕ) → geometryOk G ≡ true → resetRefusal s ≡ 0 → Kept G p (start G s)
 
--- All claims of the project: those of the crates below, and these.
+-- All claims on the machine: those of the crates below, and these. `trm_listing` gathers them with the rest.
 pub record Claims : Type 0 where
   pub word : WordClaims
   pub codec : CodecClaims

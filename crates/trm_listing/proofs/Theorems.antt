@@ -6,6 +6,9 @@ use mathlib.Core.Path.{_≡_, sym, ap, _∙_}
 use mathlib.Core.Bool.{true}
 use mathlib.Core.List.{List, [], _++_, append-assoc, append-nil}
 use lib.ListN.{take}
+use Rattle.trm_agreement.proofs.Theorems.{theorems as machine-theorems}
+use Rattle.trm_image.proofs.Theorems.{theorems as image-theorems}
+use Rattle.trm_text.proofs.Theorems.{theorems as text-theorems}
 use Rattle.trm_listing.specs.declared.inner.pieces.Listing.{Listing}
 use Rattle.trm_listing.specs.Listing.{outputOf}
 use Rattle.trm_listing.specs.Pieces.{restOf}
@@ -25,4 +28,10 @@ pieces-are-output s written l p st h e =
     sym (ap (λ t. written ++ t) (none-left s p st l e) ∙ append-nil written) ∙ so-far s written l p st h
 
 pub theorems : Claims
-theorems = record { pieces-are-output = pieces-are-output }
+theorems =
+    record {
+      machine = machine-theorems;
+      image = image-theorems;
+      text = text-theorems;
+      pieces-are-output = pieces-are-output;
+    }

@@ -6,6 +6,9 @@ use mathlib.Core.Path.{_≡_}
 use mathlib.Core.Bool.{true}
 use mathlib.Core.List.{List, _++_}
 use lib.ListN.{take}
+use Rattle.trm_agreement.specs.Claims.{Claims as MachineClaims}
+use Rattle.trm_image.specs.Claims.{Claims as ImageClaims}
+use Rattle.trm_text.specs.Claims.{Claims as TextClaims}
 use Rattle.trm_listing.specs.declared.inner.pieces.Listing.{Listing}
 use Rattle.trm_listing.specs.Listing.{outputOf}
 use Rattle.trm_listing.specs.Pieces.{StartHolds, PieceHolds}
@@ -23,5 +26,9 @@ abbrev pub PiecesAreOutput : Type 0
 PiecesAreOutput =
     (s written : List ℕ) (l : Listing) (p st : List ℕ) → Pieces s written l p st → l .over ≡ true → written ≡ outputOf s
 
+-- All claims of the project: those of the crates below, and this one.
 pub record Claims : Type 0 where
+  pub machine : MachineClaims
+  pub image : ImageClaims
+  pub text : TextClaims
   pub pieces-are-output : PiecesAreOutput
