@@ -15,7 +15,7 @@ use Rattle.trm_listing.specs.Pieces.{restOf}
 use Rattle.trm_listing.specs.Claims.{Pieces, first, next, PiecesAreOutput, Claims}
 
 so-far : (s written : List ℕ) (l : Listing) (p st : List ℕ) → Pieces s written l p st → written ++ restOf s p st l ≡ outputOf s
-so-far s written l p st (first b r program st′ b′ h) = sym (h .text)
+so-far s written l p st (first program₀ st₀ b r program st′ b′ h) = sym (h .text)
 so-far s written l p st (next w m q u before b r u′ b′ h) =
     append-assoc w (take (r .len) b′) (restOf s q u′ r) ∙ ap (λ t. w ++ t) (sym (h .text)) ∙ so-far s w m q u before
 

@@ -16,7 +16,7 @@ use Rattle.trm_listing.specs.Pieces.{StartHolds, PieceHolds}
 -- Some pieces of the listing of the image s: `written` is all that was put into the buffer, l what the last piece returned, p the
 -- program's words, st the store; each piece is whatever `first_piece` and `next_piece` hand back by their contracts.
 pub data Pieces (s : List ℕ) : List ℕ → Listing → List ℕ → List ℕ → Type 0 where
-  first : (b : List ℕ) (r : Listing) (program st b′ : List ℕ) → StartHolds s b r program st b′
+  first : (program₀ st₀ b : List ℕ) (r : Listing) (program st b′ : List ℕ) → StartHolds s program₀ st₀ b r program st b′
       → Pieces s (take (r .len) b′) r (take (r .words) program) st
   next : (written : List ℕ) (l : Listing) (p st : List ℕ) → Pieces s written l p st
       → (b : List ℕ) (r : Listing) (st′ b′ : List ℕ) → PieceHolds s p st b l r st′ b′ → Pieces s (written ++ take (r .len) b′) r p st′

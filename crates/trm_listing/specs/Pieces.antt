@@ -1,19 +1,22 @@
 -- A listing piece by piece: what the first and each next piece puts into the buffer, and what is still to come.
 -- Paper: "lines gathered and written in large pieces" is ours; the bytes are `outputOf`. Assumes nothing.
 --   restOf s p st l   what is to be written after the pieces so far        StartHolds, PieceHolds   the contracts
-use Prim.Native.Nat.{ℕ, _≤_, _<_}
+use Prim.Native.Nat.{ℕ, _-_, _≤_, _<_}
 use mathlib.Core.Path.{_≡_}
 use mathlib.Core.Bool.{true, false, cond}
 use mathlib.Core.List.{List, [], _++_}
-use lib.ListN.{length, take}
+use lib.ListN.{length, take, replicate}
+use lib.Dec.{eqb}
 use Rattle.trm_core.specs.Record.{Lent}
 use Rattle.trm_engine.specs.Machine.{recordOf}
+use Rattle.trm_image.specs.Refused.{imageFault}
+use Rattle.trm_image.specs.Meaning.{imageOf}
 use Rattle.trm_text.specs.Lines.{endBytes}
 use Rattle.trm_text.specs.Wrote.{Wrote}
 use Rattle.trm_listing.specs.declared.inner.runs.Place.{Place}
 use Rattle.trm_listing.specs.declared.inner.finish.Ended.{Ended}
 use Rattle.trm_listing.specs.declared.inner.pieces.Listing.{Listing}
-use Rattle.trm_listing.specs.Listing.{outputOf}
+use Rattle.trm_listing.specs.Listing.{firstStore, outputOf}
 use Rattle.trm_listing.specs.Rest.{textFrom, pinsLeft, Stands}
 
 abbrev pub lentBy : Listing → List ℕ → Lent
@@ -37,12 +40,23 @@ restOf s p st l = cond (l .over) [] (textFrom p (lentBy l st) (l .took) (pinsLef
 abbrev pub Ready : List ℕ → List ℕ → List ℕ → Listing → Type 0
 Ready s p st l = l .over ≡ false → Stands s p (placeOf l) (lentBy l st) []
 
+-- the arrays of program and store after the first piece: an accepted image is loaded, a refused one leaves them as they were
+abbrev pub programAfter : List ℕ → List ℕ → List ℕ
+programAfter s old =
+    cond (eqb (imageFault 2048 s .number) 0)
+    (imageOf s .program ++ replicate (4096 - length (imageOf s .program)) 0) old
+
+abbrev pub storeAfter : List ℕ → List ℕ → List ℕ
+storeAfter s old = cond (eqb (imageFault 2048 s .number) 0) (firstStore (imageOf s .first)) old
+
 -- the first piece: program and store are loaded, and the buffer holds the header, or the line of a refusal
-pub record StartHolds (s b₀ : List ℕ) (r : Listing) (program st b : List ℕ) : Type 0 where
+pub record StartHolds (s program₀ st₀ b₀ : List ℕ) (r : Listing) (program st b : List ℕ) : Type 0 where
   pub text : outputOf s ≡ take (r .len) b ++ restOf s (take (r .words) program) st r
   pub ready : Ready s (take (r .words) program) st r
   pub fits : r .len ≤ length b
   pub words : r .words ≤ length program
+  pub program-is : program ≡ programAfter s program₀
+  pub store-is : st ≡ storeAfter s st₀
   pub programmed : length program ≡ 4096
   pub stored : length st ≡ 2048
   pub long : length b ≡ length b₀

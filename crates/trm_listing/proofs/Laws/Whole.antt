@@ -3,7 +3,7 @@
 -- Assumes nothing.
 use Prim.Native.Nat.{ℕ, _-_, _/_, _≤_}
 use mathlib.Core.Path.{_≡_, refl, sym, ap, _∙_, subst}
-use mathlib.Core.Bool.{false}
+use mathlib.Core.Bool.{false, cond}
 use mathlib.Core.List.{List, [], _∷_, _++_, append-assoc, append-nil}
 use native.Mathlib.Omega.{arith}
 use lib.ListN.{length, take, drop, replicate, length-append, length-replicate}
@@ -28,6 +28,7 @@ use Rattle.trm_listing.specs.Listing.{lineOf, tookAfter, linesFrom, pins
 use Rattle.trm_listing.specs.Listing.{listingOf, outputOf}
 use Rattle.trm_listing.specs.Rest.{textFrom, Stands}
 use Rattle.trm_listing.specs.Loaded.{Loaded}
+use Rattle.trm_listing.specs.Pieces.{programAfter}
 
 lines-append : (ls ms : List Line) → linesBytes (ls ++ ms) ≡ linesBytes ls ++ linesBytes ms
 unfolding linesBytes
@@ -57,6 +58,10 @@ reset-clocks : (st : List ℕ) → resetOf paperGeometry st .scalars .counts .cl
 unfolding resetOf
 reset-clocks st = refl
 
+-- what an accepted image is loaded to
+pub taken : (n : ℕ) (new old st : List ℕ) → n ≡ 0 → st ≡ new → st ≡ cond (eqb n 0) new old
+taken n new old st z e = rw z e
+
 module _ (s : List ℕ) where
   pub output-refused : (n a len : ℕ) (b b′ : List ℕ) → n ≡ imageFault 2048 s .number → a ≡ imageFault 2048 s .at → eqb n 0 ≡ false
       → Wrote b 0 (refusedBytes n a) b′ len → outputOf s ≡ take len b′ ++ []
@@ -70,6 +75,12 @@ module _ (s : List ℕ) where
     program-is n program e f =
         ap (take n) f ∙ take-at (wordsAt s 6 n) (replicate (4096 - n) 0) n (length-wordsAt s 6 n)
         ∙ ap (wordsAt s 6) e ∙ sym (accepted-head 2048 s ok .is)
+
+    pub program-array : (n : ℕ) (program old : List ℕ) → n ≡ lengthAt s 0 / 4 → program ≡ wordsAt s 6 n ++ replicate (4096 - n) 0
+        → program ≡ programAfter s old
+    program-array n program old e f =
+        let q : imageOf s .program ≡ wordsAt s 6 n = accepted-head 2048 s ok .is ∙ ap (wordsAt s 6) (sym e) in
+        rw (ok, q, length-wordsAt s 6 n) f
 
     pub program-whole : (n : ℕ) (program : List ℕ) → n ≡ lengthAt s 0 / 4 → program ≡ wordsAt s 6 n ++ replicate (4096 - n) 0
         → length program ≡ 4096

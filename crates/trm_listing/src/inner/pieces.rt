@@ -65,7 +65,8 @@ fn load_store(image: &[u8], store: &mut [u32]) -> usize
 // The image is checked whole; then program and store are loaded and the header is put, or the line of the refusal.
 pub fn first_piece(image: &[u8], program: &mut [u32], store: &mut [u32], buf: &mut [u8]) -> Listing
     requires { ⌜ (length (now program) ≡ 4096) × (length (now store) ≡ 2048) × (128 ≤ length (now buf)) ⌝ }
-    ensures { λ r. ⌜ StartHolds (now (image .entry)) (now (buf .entry)) r (now (program .exit)) (now (store .exit)) (now (buf .exit)) ⌝ }
+    ensures { λ r. ⌜ StartHolds (now (image .entry)) (now (program .entry)) (now (store .entry)) (now (buf .entry)) r
+        (now (program .exit)) (now (store .exit)) (now (buf .exit)) ⌝ }
 {
     let checked = reader::check(image, 2048);
     let fault = checked.fault;

@@ -1,4 +1,11 @@
 -- The proof of trm_listing::inner::pieces::first_piece.
+use mathlib.Core.Bool.{false}
+use lib.ListN.{replicate}
+use Rattle.trm_listing.proofs.Laws.Whole.{output-refused, program-is, program-array}
+use Rattle.trm_listing.proofs.Laws.Whole.{program-whole, taken, output-begun, begun-stands}
+use lib.ListN.{replicate}
+use Rattle.trm_listing.proofs.Laws.Whole.{output-refused, program-is, program-array}
+use Rattle.trm_listing.proofs.Laws.Whole.{program-whole, taken, output-begun, begun-stands}
 use Rattle.trm_listing.proofs.Laws.Whole.{output-refused, program-is, program-whole, output-begun, begun-stands}
 use mathlib.Core.Path.{_≡_, refl, sym, ap, _∙_}
 use native.Mathlib.Omega.{arith}
@@ -47,6 +54,10 @@ returns c =
     let bad = ap (λ k. eqb k 0) (c .before .before .before .before .before .number .ensures) ∙ sym
     (c .before .before .before .before .before .before .before .before .accepted .ensures) ∙ not-true _
     (c .before .before .before .before .before .before .before .if1 .taken) in
+    let refused : eqb (imageFault 2048 (c .before .before .before .before .before .before .before .before .before .before .before
+    .before .before .before .args .image .now) .number) 0 ≡ false = ap (λ k. eqb k 0) (sym (e .number)) ∙ sym
+    (c .before .before .before .before .before .before .before .before .accepted .ensures) ∙ not-true _
+    (c .before .before .before .before .before .before .before .if1 .taken) in
     record {
       text = output-refused _ _ _ _ _ _ (c .before .before .before .before .before .number .ensures ∙ e .number) (e .at) bad
           (c .before .before .before .before .put-refused .ensures .0);
@@ -60,11 +71,14 @@ returns c =
             .pre .2,
       );
       words = omega arith;
-      programmed = c .before .before .before .before .before .before .before .before .before .before
-          .before .before .before .before .pre .0;
-      stored = c .before .before .before .before .before .before .before .before .before
-          .before .before .before .before .before .pre .1;
-      long = c .before .before .before .before .put-refused .ensures .0 .long;
+      program-is = rw refused;
+      store-is = rw refused;
+      programmed = c .before .before .before .before
+          .before .before .before .before .before .before .before .before .before .before .pre .0;
+      stored = c .before .before .before
+          .before .before .before .before .before .before .before .before .before .before .before .pre .1;
+      long = c .before .before
+          .before .before .put-refused .ensures .0 .long;
     }
 
 word-at-requires : tie.Need-word-at-requires
@@ -174,9 +188,23 @@ returns-2 c =
         h .long,
         program-long,
       );
+      program-is = program-array
+          (c .before .before .before .before .before .before .before .before .before .before .before .before .before .before .before
+          .before .before .before .before .before .before .before .args .image .now) ok
+          (c .before .before .before .before .before .before .before .before .before .before .before .before .before .before .word-at
+          .result / 4) _ _ n (c .before .before .before .before .before .before .before .before .before .before .before .before
+          .load-words .ensures ∙ ap (λ k. wordsAt (c .before .before .before .before .before .before .before .before .before .before
+          .before .before .before .before .before .before .before .before .before .before .before .before .args .image .now) 6
+          (c .before .before .before .before .before .before .before .before .before .before .before .before .before .before .word-at
+          .result / 4) ++ replicate (k - c .before .before .before .before .before .before .before .before .before .before .before
+          .before .before .before .word-at .result / 4) 0) (c .before .before .before .before .before .before .before .before .before
+          .before .before .before .before .before .before .before .before .before .before .before .before .before .pre .0));
+      store-is =
+          taken _ _ _ _ ok (ld .store);
       programmed = program-long;
       stored = ld .long;
-      long = c .before .before .put-header .ensures .0 .long;
+      long = c .before .before .put-header .ensures .0
+          .long;
     }
 
 pub first-piece-spec : {M : Type 1} → statement M
