@@ -1,4 +1,4 @@
--- What the exported calls give on every input: the outcome of the call of trm_calls, with the paper's number.
+-- What the exported calls give on every input: the outcome of the call of trm_calls or trm_inspect, with the paper's number.
 -- Paper: "Where calls are turned down"; "The clock call takes the record and returns it". Assumes nothing.
 --   ResetNumbered, ClockNumbered, RunNumbered, LookNumbered, CopyNumbered, WatchNumbered   the whole promise of each call, r its result
 --   valueOf   a sighting as the watch returns it
@@ -15,9 +15,9 @@ use Rattle.trm_core.specs.declared.watch.Sighting.{Sighting}
 use Rattle.trm_core.specs.declared.watch.Sighting.the-variants.{Clock, Nowhere}
 use Rattle.trm_core.specs.Run.{Ran}
 use Rattle.trm_engine.specs.declared.machine.Machine.{Machine}
-use Rattle.trm_engine.specs.Machine.{recordOf}
-use Rattle.trm_calls.specs.Outcome.{lent, pins, resetGives, clockGives, runGives}
-use Rattle.trm_calls.specs.Observed.{lookGives, copyGives}
+use Rattle.trm_engine.specs.Machine.{recordOf, lent}
+use Rattle.trm_calls.specs.Outcome.{pins, resetGives, clockGives, runGives}
+use Rattle.trm_inspect.specs.Observed.{lookGives, copyGives}
 use Rattle.trm.specs.declared.answer.ResetAnswer.{ResetAnswer}
 use Rattle.trm.specs.declared.answer.ClockAnswer.{ClockAnswer}
 use Rattle.trm.specs.declared.answer.RunAnswer.{RunAnswer}

@@ -1,6 +1,6 @@
 // The calls as C sees them: a slice is a pointer and a length, the record goes by value.
 // Paper: "Where calls are turned down"; "The clock call takes the record and returns it"; runs, look, copy and watch.
-// Each is the call of trm_calls with the number in place of the enum.
+// Each is the call of trm_calls or trm_inspect with the number in place of the enum.
 ghost use Rattle.trm.specs.Numbered.{ResetNumbered, ClockNumbered, RunNumbered, LookNumbered, CopyNumbered, WatchNumbered};
 use crate::answer::ClockAnswer;
 use crate::answer::LookAnswer;
@@ -78,7 +78,7 @@ pub extern "C" fn trm_run(
 pub extern "C" fn trm_look(m: Machine, program: &[u32], store: &[u32], address: u32) -> LookAnswer
     ensures { λ r. ⌜ LookNumbered m (now (program .entry)) (now (store .entry)) address r ⌝ }
 {
-    let r = trm_calls::observe::look(m, program, store, address);
+    let r = trm_inspect::calls::look(m, program, store, address);
     let refused = r.refused;
     LookAnswer {
         number: number::number_of(refused),
@@ -91,7 +91,7 @@ pub extern "C" fn trm_look(m: Machine, program: &[u32], store: &[u32], address: 
 pub extern "C" fn trm_copy(m: Machine, program: &[u32], store: &[u32], buffer: &mut [u32]) -> u32
     ensures { λ r. ⌜ CopyNumbered m (now (program .entry)) (now (store .entry)) (now (buffer .entry)) r (now (buffer .exit)) ⌝ }
 {
-    let refused = trm_calls::observe::copy(m, program, store, buffer);
+    let refused = trm_inspect::calls::copy(m, program, store, buffer);
     number::number_of(refused)
 }
 
@@ -100,7 +100,7 @@ pub extern "C" fn trm_copy(m: Machine, program: &[u32], store: &[u32], buffer: &
 pub extern "C" fn trm_watch(bytes: &[u8], device: u32) -> WatchAnswer
     ensures { λ r. ⌜ WatchNumbered (now (bytes .entry)) device r ⌝ }
 {
-    let r = trm_calls::observe::watch(bytes, device);
+    let r = trm_inspect::calls::watch(bytes, device);
     let refused = r.refused;
     let sighting = r.sighting;
     let n = number::number_of(refused);

@@ -10,31 +10,21 @@ use lib.ListN.{length, take}
 use Rattle.trm_reference.specs.Geometry.{Geometry, paperGeometry, geometryOk}
 use Rattle.trm_reference.specs.Trace.{clocks, endOf, outsOf, finishedIn}
 use Rattle.trm_reference.specs.Reference.{Reference, referenceClock, referenceReset}
-use Rattle.trm_word.specs.Claims.{Claims as WordClaims}
-use Rattle.trm_codec.specs.Claims.{Claims as CodecClaims}
-use Rattle.trm_alu.specs.Claims.{Claims as AluClaims}
-use Rattle.trm_reference.specs.Claims.{Claims as ReferenceClaims}
-use Rattle.trm_cache.specs.Claims.{Claims as CacheClaims}
-use Rattle.trm_core.specs.Record.{Lent, resetOf}
+use Rattle.trm_core.specs.Record.{Lent, start}
 use Rattle.trm_core.specs.Refusals.{resetRefusal, runRefusal}
 use Rattle.trm_core.specs.Run.{historyOf, bytesOf, wordsOf, runOf}
-use Rattle.trm_core.specs.Claims.{Kept, Claims as CoreClaims}
 use Rattle.trm_refusals.specs.Numbers.{numberOf as refusalNumber}
 use Rattle.trm_engine.specs.declared.machine.Machine.{Machine}
+use Rattle.trm_engine.specs.Machine.{lent}
 use Rattle.trm_calls.specs.declared.answer.Reset.{Reset}
 use Rattle.trm_calls.specs.declared.answer.Clock.{Clock}
 use Rattle.trm_calls.specs.declared.answer.Run.{Run}
-use Rattle.trm_calls.specs.Outcome.{lent}
 use Rattle.trm_agreement.specs.Log.{clocksOf, logOf, returnsIn, answersIn, fedOf, stateOf}
 use Rattle.trm_agreement.specs.Calls.{Call, runCall, feed, numberOf, answer, runEnds}
 use Rattle.trm_agreement.specs.Calls.{recordEngine, referenceEngine}
 use Rattle.trm_agreement.specs.Contracts.{ResetMet, ClockMet, RunMet}
 use Rattle.trm_agreement.specs.Exchange.{Returned, codeReturned, Exchange, exchangeOf}
 use Rattle.trm_agreement.specs.Plain.{LedgerKept, Bounded, DevicesHold, Quiet, InterruptsHold}
-
--- the record and the store after an accepted reset
-abbrev pub start : Geometry → List ℕ → Lent
-start G s = record { machine = resetOf G s; store = s }
 
 -- DEMAND 3. For every program p, a bad one too, every first memory s that reset accepts and every list cs of clock calls and runs,
 -- refused ones included, and for whatever these calls hand back that their contracts allow: one equation of two logs, that of the
@@ -145,19 +135,7 @@ PrefixAccepted =
     → runRefusal G p (x .machine) (x .store) lines inputs bytes words ≡ 0
     → runRefusal G p (x .machine) (x .store) (take k lines) (take k inputs) (take k bytes) (take k words) ≡ 0
 
--- The record after an accepted reset is accepted: with `record-kept`, so is every record of a list.
-abbrev pub ResetKept : Type 0
-ResetKept =
-    (G : Geometry) (p s : List ℕ) → geometryOk G ≡ true → resetRefusal s ≡ 0 → Kept G p (start G s)
-
--- All claims on the machine: those of the crates below, and these. `trm_listing` gathers them with the rest.
 pub record Claims : Type 0 where
-  pub word : WordClaims
-  pub codec : CodecClaims
-  pub alu : AluClaims
-  pub reference : ReferenceClaims
-  pub cache : CacheClaims
-  pub core : CoreClaims
   pub same-exchange : SameExchange
   pub exchange-exists : ExchangeExists
   pub same-log : SameLog
@@ -168,7 +146,6 @@ pub record Claims : Type 0 where
   pub runs-are-runs : RunsAreRuns
   pub run-prefix : RunPrefix
   pub prefix-accepted : PrefixAccepted
-  pub reset-kept : ResetKept
   pub ledger-kept : LedgerKept
   pub bounded : Bounded
   pub devices-hold : DevicesHold

@@ -13,9 +13,9 @@ use Rattle.trm_reference.specs.Geometry.{paperGeometry}
 use Rattle.trm_reference.specs.Access.{Answer}
 use Rattle.trm_refusals.specs.Numbers.{numberOf as refusalNumber}
 use Rattle.trm_engine.specs.declared.machine.Machine.{Machine}
+use Rattle.trm_engine.specs.Machine.{lent}
 use Rattle.trm_calls.specs.declared.answer.Clock.{Clock}
 use Rattle.trm_calls.specs.declared.answer.Run.{Run}
-use Rattle.trm_calls.specs.Outcome.{lent}
 use Rattle.trm_agreement.specs.Log.{Entry, started, clocked, ended, clocksOf, entries}
 use Rattle.trm_agreement.specs.Calls.{Call, clockCall, runCall, feed, answer, Ended, clockEnds, runEnds, Seen}
 use Rattle.trm_agreement.specs.Calls.{recordSeen, recordEngine}

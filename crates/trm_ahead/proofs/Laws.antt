@@ -6,3 +6,4 @@ pub mod Free
 pub mod Reached
 pub mod Here
 pub mod Ahead
+pub mod Next

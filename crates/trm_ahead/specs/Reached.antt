@@ -23,7 +23,7 @@ use Rattle.trm_core.specs.Rule.{recordOk}
 use Rattle.trm_core.specs.Refusals.{allAtMost, programOk, storeOk}
 use Rattle.trm_core.specs.Run.{bytesOf, wordsOf}
 use Rattle.trm_core.specs.declared.record.Scalars.{Scalars}
-use Rattle.trm_clock.specs.declared.inner.outcome.Clocked.{Clocked}
+use Rattle.trm_plan.specs.declared.inner.outcome.Clocked.{Clocked}
 use Rattle.trm_ahead.specs.declared.inner.going.Going.{Going}
 use Rattle.trm_ahead.specs.declared.inner.serial.Serial.{Serial}
 

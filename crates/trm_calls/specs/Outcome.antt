@@ -18,14 +18,10 @@ use Rattle.trm_core.specs.Refusals.{resetRefusal, clockRefusal, runRefusal}
 use Rattle.trm_core.specs.Run.{Ran, runOf}
 use Rattle.trm_refusals.specs.Numbers.{numberOf}
 use Rattle.trm_engine.specs.declared.machine.Machine.{Machine}
-use Rattle.trm_engine.specs.Machine.{recordOf}
+use Rattle.trm_engine.specs.Machine.{recordOf, lent}
 use Rattle.trm_calls.specs.declared.answer.Reset.{Reset}
 use Rattle.trm_calls.specs.declared.answer.Clock.{Clock}
 use Rattle.trm_calls.specs.declared.answer.Run.{Run}
-
--- the record with the store that is lent
-abbrev pub lent : Machine → List ℕ → Lent
-lent m s = record { machine = recordOf m; store = s }
 
 abbrev pub pins : ℕ → ℕ → Pins
 pins line input = record { line = line; input = input }

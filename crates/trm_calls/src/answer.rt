@@ -1,7 +1,6 @@
-// What the calls return: the refusal, the record where it moves, and what the call reports; a copy returns the refusal alone.
+// What the calls return: the refusal, the record, and what the call reports.
 // Paper: "with the answer byte and word that a run writes for that clock"; "reports the clocks used and instructions finished".
 // The numbers of the refusals are `numberOf` of trm_refusals.
-use trm_core::watch::Sighting;
 use trm_engine::machine::Machine;
 use trm_refusals::refusal::Refusal;
 
@@ -26,16 +25,4 @@ pub struct Run {
     pub machine: Machine,
     pub used: u64,
     pub finished: u64,
-}
-
-// A look: the word, 0 if it is refused.
-pub struct Look {
-    pub refused: Refusal,
-    pub word: u32,
-}
-
-// A watch: a clock or none, and none if it is refused.
-pub struct Watch {
-    pub refused: Refusal,
-    pub sighting: Sighting,
 }

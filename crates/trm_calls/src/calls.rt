@@ -10,7 +10,7 @@ ghost use Rattle.trm_calls.specs.Outcome.{ResetHolds, ClockHolds, RunHol
 use crate::answer::Clock;
 use crate::answer::Reset;
 use crate::answer::Run;
-use crate::inner::start;
+use trm_engine::inner::start;
 use trm_engine::machine::Machine;
 use trm_refusals::inner::calls;
 use trm_refusals::inner::record;

@@ -9,6 +9,7 @@ pub mod Phases
 pub mod Goes
 pub mod Table
 pub mod Kept
+pub mod Reset
 pub mod Limits
 pub mod Scenario
 pub mod Refused

@@ -21,10 +21,10 @@ use Rattle.trm_reference.specs.Trace.{Pins, After}
 use Rattle.trm_core.specs.declared.record.Running.{Running}
 use Rattle.trm_core.specs.Record.{Machine}
 use Rattle.trm_cache.specs.Cache.{Cache, stride, countDirty}
-use Rattle.trm_core.specs.Record.{Lent, visibleOf, cacheOf}
+use Rattle.trm_core.specs.Record.{Lent, visibleOf, cacheOf, start}
 use Rattle.trm_core.specs.Clock.{chargeHere, carried, worked, heldClock, clockOf}
 use Rattle.trm_core.specs.Rule.{recordOk}
-use Rattle.trm_core.specs.Refusals.{allAtMost, linesRefused, storeOk, clockRefusal}
+use Rattle.trm_core.specs.Refusals.{allAtMost, linesRefused, storeOk, resetRefusal, clockRefusal}
 use Rattle.trm_core.specs.Scenario.{spread, recordDigest, referenceDigest, finishes, phases}
 use Rattle.trm_core.specs.Scenario.{expectedRecordDigest, expectedReferenceDigest, expectedFinishes, expectedPhases}
 use Rattle.trm_core.specs.Refused.{AllGive, rows}
@@ -84,6 +84,11 @@ RecordKept =
     (G : Geometry) (p : List ℕ) (x : Lent) (pins : Pins) → geometryOk G ≡ true → Shaped G (x .machine)
     → clockRefusal G p (x .machine) (x .store) (pins .line) ≡ 0
     → Kept G p (clockOf G p x pins .state)
+
+-- The record after an accepted reset is accepted: with `record-kept`, so is every record of a list.
+abbrev pub ResetKept : Type 0
+ResetKept =
+    (G : Geometry) (p s : List ℕ) → geometryOk G ≡ true → resetRefusal s ≡ 0 → Kept G p (start G s)
 
 -- For every record, accepted or not: an input word matters only in a clock whose answer byte shows a read. (The earlier simulator read
 -- its device in both clocks of a load; that a load shows its read in one clock alone is `silence` above.)
@@ -162,6 +167,7 @@ pub record Limits : Type 0 where
 pub record Claims : Type 0 where
   pub clock-table : ClockTable
   pub record-kept : RecordKept
+  pub reset-kept : ResetKept
   pub deaf : Deaf
   pub clocks-are-three : ClocksAreThree
   pub held-waits : HeldWaits

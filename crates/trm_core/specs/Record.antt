@@ -1,7 +1,7 @@
 -- The record: what a programmer sees of it, its cache, and the record after a clock.
 -- Paper: "The record holds phase and count .."; "The record also counts finished refills and write-backs"; "Reset makes everything zero
 -- and the cache empty; the store keeps its contents". Assumes nothing.
---   visibleOf m, cacheOf m    the two parts        whole   the record from its parts        resetOf G s   after a reset
+--   visibleOf m, cacheOf m    the two parts        whole   the record from its parts        resetOf G s, start G s   after a reset
 --   advanced, ended, waited   the scalars after a clock that goes on, that ends something, that is held
 use Prim.Native.Nat.{ℕ, _+_, _*_}
 use mathlib.Core.Bool.{cond}
@@ -173,3 +173,7 @@ resetOf G s =
       block = replicate (G .lines) 0;
       words = replicate (G .lines * stride G) 0;
     }
+
+-- the record after a reset, with its store: "the store keeps its contents"
+abbrev pub start : Geometry → List ℕ → Lent
+start G s = record { machine = resetOf G s; store = s }

@@ -1,7 +1,7 @@
 -- The record of the code as the record of the definitions, and the outcome of a clock and of a run.
 -- Paper: "The clock call takes the record and returns it".
 -- Assumes nothing.
---   recordOf m   the record of trm_core        ticked, ranTo   what a clock and a run leave and answer
+--   recordOf m   the record of trm_core        lent m s   with its store        ticked, ranTo   what a clock and a run leave and answer
 use Prim.Native.Nat.{ℕ}
 use mathlib.Core.List.{List}
 use Rattle.trm_reference.specs.Access.{Answer}
@@ -17,6 +17,10 @@ use Rattle.trm_core.specs.declared.record.Running.{Running}
 
 abbrev pub recordOf : Machine → core.Machine
 recordOf m = whole (m .scalars) (m .regs) (cache (m .full) (m .dirty) (m .block) (m .words))
+
+-- the record with the store that is lent
+abbrev pub lent : Machine → List ℕ → Lent
+lent m s = record { machine = recordOf m; store = s }
 
 -- what a clock leaves and answers, from the record that it hands back
 abbrev pub ticked : Ticked → List ℕ → After Lent Answer

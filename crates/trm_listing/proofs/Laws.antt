@@ -1,12 +1,9 @@
 -- The laws, one theme to a file.
--- `Flight`: a word in flight; `Text`: what is to be written, clock by clock; `Onward`: the listing goes on.
+-- `Held`: held clocks; `Along`: run after run; `Whole`: the whole output; `Load`: program and store; `Piece`: the pieces; `Examples`: computed.
 -- Assumes nothing.
-pub mod Flight
-pub mod Text
-pub mod Onward
-pub mod Gone
 pub mod Held
 pub mod Along
 pub mod Whole
 pub mod Load
 pub mod Piece
+pub mod Examples

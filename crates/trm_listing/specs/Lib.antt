@@ -2,6 +2,7 @@
 -- Paper: "Images and the listing program".
 -- Assumes nothing.
 pub mod Listing
+pub mod Examples
 pub mod Rest
 pub mod Loaded
 pub mod Pieces

@@ -17,7 +17,8 @@ use Rattle.trm_listing.specs.declared.inner.runs.Place.{Place}
 use Rattle.trm_listing.specs.declared.inner.finish.Ended.{Ended}
 use Rattle.trm_listing.specs.declared.inner.pieces.Listing.{Listing}
 use Rattle.trm_listing.specs.Listing.{firstStore, outputOf}
-use Rattle.trm_listing.specs.Rest.{textFrom, pinsLeft, Stands}
+use Rattle.trm_lines.specs.Onward.{textFrom}
+use Rattle.trm_listing.specs.Rest.{pinsLeft, Stands}
 
 abbrev pub lentBy : Listing → List ℕ → Lent
 lentBy l st = record { machine = recordOf (l .machine); store = st }

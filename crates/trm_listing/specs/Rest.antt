@@ -1,87 +1,20 @@
--- A listing in the middle: what is still to be written. Terms of inner contracts.
--- Paper: "lines gathered"; none of these need be believed but `restOf`, in the contracts of the pieces.
+-- A listing in the middle: the runs that are left. Terms of inner contracts.
+-- Paper: "lines gathered"; none of these need be believed but `pinsLeft`, in the contracts of the pieces.
 -- Assumes nothing.
---   textFrom p x took is   the lines from x on, and the last line        Able   what every clock of a listing asks
---   Onward                 clocks are gone, and their lines are in the buffer
+--   pinsLeft s q   the pins of all clocks that are left        Stands   a listing stands here        Along   it has gone on
 use Prim.Native.Nat.{ℕ, _+_, _*_, _-_, _≤_}
 use mathlib.Core.Path.{_≡_}
-use mathlib.Core.Bool.{true, cond}
-use mathlib.Core.List.{List, [], _∷_, _++_}
+use mathlib.Core.List.{List, _++_}
 use lib.ListN.{length, take, drop, replicate}
-use lib.Dec.{eqb}
-use Rattle.trm_reference.specs.Geometry.{paperGeometry}
 use Rattle.trm_reference.specs.Trace.{Pins}
-use Rattle.trm_cache.specs.Cache.{Cache}
 use Rattle.trm_core.specs.declared.record.Scalars.{Scalars}
-use Rattle.trm_core.specs.Record.{Lent, whole}
-use Rattle.trm_core.specs.Clock.{clockOf}
-use Rattle.trm_core.specs.Claims.{Shaped}
-use Rattle.trm_core.specs.Rule.{recordOk}
-use Rattle.trm_core.specs.Refusals.{programOk, storeOk}
-use Rattle.trm_clock.specs.declared.inner.outcome.Clocked.{Clocked}
-use Rattle.trm_text.specs.declared.inner.lines.Shown.the-variants.{Word, Irq0, Irq1}
-use Rattle.trm_text.specs.Lines.{lineBytes, linesBytes}
-use Rattle.trm_text.specs.Wrote.{Wrote}
+use Rattle.trm_core.specs.Record.{Lent}
 use Rattle.trm_image.specs.Records.{begins}
 use Rattle.trm_image.specs.Meaning.{runsIn}
 use Rattle.trm_image.proofs.Laws.Runs.{Runs}
-use Rattle.trm_listing.specs.declared.inner.listed.Listed.{Listed}
+use Rattle.trm_lines.specs.Onward.{textFrom, Able}
 use Rattle.trm_listing.specs.declared.inner.runs.Place.{Place}
-use Rattle.trm_listing.specs.Listing.{lineOf, tookAfter, pinsOfRuns, endLine}
-
-unfoldable pub textFrom : List ℕ → Lent → ℕ → List Pins → List ℕ
-textFrom p x took [] = endLine x
-textFrom p x took (i ∷ is) = linesBytes (lineOf p x i took) ++ textFrom p (clockOf paperGeometry p x i .state) (tookAfter p x i took) is
-
--- the record and the store where a listing stands
-abbrev pub lentOf : Listed → List ℕ → Cache → List ℕ → Lent
-lentOf l rs ca s = record { machine = whole (l .scalars) rs ca; store = s }
-
--- an accepted record, and counts that have room for the clocks left
-pub record Able (p : List ℕ) (x : Lent) (took left : ℕ) (i : Pins) : Type 0 where
-  pub program : programOk p ≡ true
-  pub store : storeOk (x .machine) (x .store) ≡ true
-  pub rule : recordOk paperGeometry p (length (x .store)) (x .machine) ≡ true
-  pub shaped : Shaped paperGeometry (x .machine)
-  pub room : x .machine .scalars .counts .clocks + left ≤ 4294967295
-  pub few : took ≤ x .machine .scalars .counts .clocks
-  pub low : i .line ≤ 7
-
--- the listing stood at x with the buffer b, and stands at x′ with the buffer b′: what is written and what is to be written is the same
-pub record Onward (p : List ℕ) (i : Pins) (l : Listed) (x : Lent) (b : List ℕ) (l′ : Listed) (x′ : Lent) (b′ : List ℕ) : Type 0 where
-  pub able : Able p x′ (l′ .took) (l′ .left) i
-  pub text : (is : List Pins) → take (l′ .len) b′ ++ textFrom p x′ (l′ .took) (replicate (l′ .left) i ++ is)
-      ≡ take (l .len) b ++ textFrom p x (l .took) (replicate (l .left) i ++ is)
-  pub long : length b′ ≡ length b
-  pub fits : l′ .len ≤ length b′
-  pub fewer : l′ .left ≤ l .left
-  pub pace : x′ .machine .scalars .counts .clocks + l′ .left ≡ x .machine .scalars .counts .clocks + l .left
-  pub stored : length (x′ .store) ≡ length (x .store)
-
--- one clock that takes no interrupt, as the code makes it: r is what the clock left, w the word at PC
-pub record Went (l : Listed) (r : Clocked) (w : ℕ) (b : List ℕ) (h : Listed) (b′ : List ℕ) : Type 0 where
-  pub scalars : h .scalars ≡ r .scalars
-  pub left : h .left ≡ l .left - 1
-  pub took : h .took ≡ cond (eqb (r .done) 1) 0 (l .took + 1)
-  pub text : Wrote b (l .len)
-      (cond (eqb (r .done) 1)
-      (lineBytes (record { clock = r .scalars .counts .clocks; at = l .scalars .pc; shown = Word w; took = l .took + 1 })) [])
-      b′ (h .len)
-  pub fits : h .len ≤ length b′
-
--- one clock that takes an interrupt and goes to the PC `to`
-pub record Interrupted (l : Listed) (c : Scalars) (to : ℕ) (b : List ℕ) (h : Listed) (b′ : List ℕ) : Type 0 where
-  pub scalars : h .scalars ≡ c
-  pub left : h .left ≡ l .left - 1
-  pub took : h .took ≡ 0
-  pub text : Wrote b (l .len) (lineBytes (record {
-    clock = c .counts .clocks;
-    at = l .scalars .pc;
-    shown = cond
-        (eqb to 2) Irq0 Irq1;
-    took = 1;
-  })) b′ (h .len)
-  pub fits : h .len ≤ length b′
+use Rattle.trm_listing.specs.Listing.{pinsOfRuns}
 
 -- the scalars after n held clocks
 abbrev pub heldBy : Scalars → ℕ → Scalars

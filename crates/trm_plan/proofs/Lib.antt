@@ -1,4 +1,4 @@
--- The laws of what a clock does.
+-- The laws of what a clock does, and a file for each function.
 -- Nothing here need be read to know what is claimed.
 -- Assumes nothing.
 pub mod Laws

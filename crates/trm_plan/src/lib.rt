@@ -1,3 +1,4 @@
-// What a clock does, by the phase and the word at PC: definitions and laws, no code.
+// What a clock does, by the phase and the word at PC, in definitions and laws; and in code what it leaves beside the arrays.
 // Paper: the clock table and the phases.
-// The functions of trm_clock cite them.
+// The functions of one clock cite them.
+pub mod inner;

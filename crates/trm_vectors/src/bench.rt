@@ -9,9 +9,9 @@ use crate::print;
 use trm_calls::answer::Clock;
 use trm_calls::answer::Run;
 use trm_calls::calls;
-use trm_calls::observe;
 use trm_core::watch::Sighting;
 use trm_engine::machine::Machine;
+use trm_inspect::calls as inspect;
 use trm_refusals::refusal::Refusal;
 
 // The record, and how many words of the program and of the store are lent.
@@ -145,7 +145,7 @@ pub fn run(c: Case, m: Machine, program: &[u32], store: &mut [u32]) -> Machine {
 
 // One word of data memory.
 pub fn look(m: Machine, program: &[u32], store: &[u32], address: u32) {
-    let r = observe::look(m, program, store, address);
+    let r = inspect::look(m, program, store, address);
     let refused = r.refused;
     print::decimal(number(refused));
     print::word(r.word);
@@ -153,7 +153,7 @@ pub fn look(m: Machine, program: &[u32], store: &[u32], address: u32) {
 
 // A copy into a buffer: the number, and all of the buffer.
 fn show_copy(m: Machine, program: &[u32], store: &[u32], buffer: &mut [u32]) {
-    let refused = observe::copy(m, program, store, buffer);
+    let refused = inspect::copy(m, program, store, buffer);
     print::decimal(number(refused));
     print::hex(digest::of_words(buffer), 8);
 }
@@ -169,7 +169,7 @@ pub fn copy(m: Machine, program: &[u32], store: &[u32], length: u32, at: u32) {
 
 // The watch's number, and the clock or none.
 fn show_watch(bytes: &[u8], device: u32) {
-    let r = observe::watch(bytes, device);
+    let r = inspect::watch(bytes, device);
     let refused = r.refused;
     print::decimal(number(refused));
     let sighting = r.sighting;

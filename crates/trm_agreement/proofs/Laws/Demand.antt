@@ -29,13 +29,12 @@ use Rattle.trm_core.specs.Refusals.{allAtMost, programOk, storeOk, recordRows, 
 use Rattle.trm_core.specs.Refusals.{clockRefusal, runRefusal}
 use Rattle.trm_core.specs.Rule.{recordOk}
 use Rattle.trm_core.proofs.Laws.Fit.{Fit, fit, any-line-in}
+use Rattle.trm_core.proofs.Laws.Reset.{zeros, first, first-line, first-words, first-wide, reset-legal}
 use Rattle.trm_cache.proofs.Laws.Cache.{Sane, empty-view}
 use Rattle.trm_cache.proofs.Laws.Dirty.{copy-is}
 use Rattle.trm_agreement.specs.Log.{logOf}
 use Rattle.trm_agreement.specs.Calls.{Call, clockCall, runCall, feed, answer, recordSeen, recordCode, recordEngine, referenceSeen}
 use Rattle.trm_agreement.specs.Calls.{ownRows, referenceCode, referenceEngine}
-use Rattle.trm_core.specs.Claims.{Kept}
-use Rattle.trm_agreement.specs.Claims.{start}
 use Rattle.trm_agreement.proofs.Laws.Simulate.{Together, log-alike}
 use Rattle.trm_agreement.proofs.Laws.History.{judged-none}
 use Rattle.trm_agreement.proofs.Laws.Relation.{Extra, plainOf, Common, ready, Related, Agree}
@@ -155,34 +154,7 @@ module _ (G : Geometry) (p : List ℕ) where
       go true y = own-room (q .clocks) c y
       go false y = absurd (omega arith)
 
-zeros : ℕ → List ℕ
-zeros k = replicate k 0
-
-length-zeros : (k : ℕ) → length (zeros k) ≡ k
-unfolding zeros
-length-zeros k = length-replicate k 0
-
 module _ (G : Geometry) (p s : List ℕ) where
-  first : Cache
-  first = cache (zeros (G .lines)) (zeros (G .lines)) (zeros (G .lines)) (zeros (G .lines * stride G))
-
-  first-line : (l : ℕ) → l < G .lines
-      → (lineAt G first l .full ≡ false) × (lineAt G first l .dirty ≡ false) × (lineAt G first l .block ≡ 0)
-  unfolding lineAt first zeros
-  first-line l h = (
-    (rw (getD-replicate {A = ℕ} (G .lines) l 0 0 h)),
-    (rw (getD-replicate {A = ℕ} (G .lines) l 0 0 h)),
-    (rw (getD-replicate {A = ℕ} (G .lines) l 0 0 h)),
-  )
-
-  first-wide : (l : ℕ) → l < G .lines → G .words ≤ length (lineAt G first l .words)
-  unfolding lineAt first zeros
-  first-wide l h = rw (length-take-le (stride G) (drop (l * stride G) (zeros (G .lines * stride G))) enough) (omega arith)
-    where
-      enough : stride G ≤ length (drop (l * stride G) (zeros (G .lines * stride G)))
-      enough = rw (length-drop (l * stride G) (zeros (G .lines * stride G)), length-zeros)
-          (omega (arith, mul-le-mul-right (stride G) h, suc-mul l (stride G)))
-
   tied-reset : Fit G (length s) → storeLengthOk (length s) ≡ true
       → Tied G p 0 (record { machine = resetOf G s; store = s }) (referenceReset s)
   unfolding resetOf referenceReset resetVisible first zeros
@@ -196,51 +168,35 @@ module _ (G : Geometry) (p s : List ℕ) where
         memory = refl;
         view = through;
         sane = sane;
-        off = λ q l h. first-line l h .0;
+        off = λ q l h. first-line G l h .0;
         fit = g;
         legal = legal;
         narrow = record { pc = omega arith; n = omega arith; z = omega arith; c = omega arith; v = omega arith; status = omega arith };
         counted = record { held = omega arith; refills = omega arith; writebacks = omega arith };
       };
-      flight = ready refl refl (λ l h. unfold since in judged-none (lineAt G first l) (first-line l h .0) (first-line l h .1));
+      flight = ready refl refl (λ l h. unfold since in judged-none (lineAt G (first G) l) (first-line G l h .0) (first-line G l h .1));
     };
   }
     where
-      sane : Sane G first s
+      sane : Sane G (first G) s
       sane = record {
-        wide = record {
-          full = rw length-zeros (omega arith);
-          dirty = rw length-zeros (omega arith);
-          block = rw length-zeros (omega arith);
-          words = rw length-zeros (omega arith);
-          fullMark = λ k h. rw (getD-replicate {A = ℕ} (G .lines) k 0 0 h) (omega arith);
-          dirtyMark = λ k h. rw (getD-replicate {A = ℕ} (G .lines) k 0 0 h) (omega arith);
-        };
+        wide = first-wide G;
         each = λ l h. record {
-          wide = first-wide l h;
-          home = λ q. bool-clash (lineAt G first l .full) q (first-line l h .0);
-          inside = λ q. bool-clash (lineAt G first l .full) q (first-line l h .0);
-          emptyClean = λ q. first-line l h .1;
-          emptyZero = λ q. first-line l h .2;
-          agrees = λ q d i hi. bool-clash (lineAt G first l .full) q (first-line l h .0);
+          wide = first-words G l h;
+          home = λ q. bool-clash (lineAt G (first G) l .full) q (first-line G l h .0);
+          inside = λ q. bool-clash (lineAt G (first G) l .full) q (first-line G l h .0);
+          emptyClean = λ q. first-line G l h .1;
+          emptyZero = λ q. first-line G l h .2;
+          agrees = λ q d i hi. bool-clash (lineAt G (first G) l .full) q (first-line G l h .0);
         };
       }
 
-      through : (a : ℕ) → a < length s → view G first s a ≡ getD s a 0
-      through a h = unfold view in (empty-view G (g .wpos) s (lineAt G first (lineOf G (blockOf G a))) a
-          (first-line (lineOf G (blockOf G a)) (any-line-in G (g .lpos) (blockOf G a)) .0))
-
-  -- reset takes the store alone
-  reset-legal : resetRefusal s ≡ 0 → storeLengthOk (length s) ≡ true
-  unfolding resetRefusal
-  reset-legal r = go (storeLengthOk (length s)) r
-    where
-      go : (t : Bool) → _≡_ {A = ℕ} (cond t 0 4) 0 → t ≡ true
-      go true y = refl
-      go false y = absurd (omega arith)
+      through : (a : ℕ) → a < length s → view G (first G) s a ≡ getD s a 0
+      through a h = unfold view in (empty-view G (g .wpos) s (lineAt G (first G) (lineOf G (blockOf G a))) a
+          (first-line G (lineOf G (blockOf G a)) (any-line-in G (g .lpos) (blockOf G a)) .0))
 
   reset-tied : geometryOk G ≡ true → resetRefusal s ≡ 0 → Tied G p 0 (record { machine = resetOf G s; store = s }) (referenceReset s)
-  reset-tied e r = tied-reset (fit G (length s) e (reset-legal r)) (reset-legal r)
+  reset-tied e r = tied-reset (fit G (length s) e (reset-legal s r)) (reset-legal s r)
 
   pub same-log : (cs : List Call) → geometryOk G ≡ true → resetRefusal s ≡ 0
       → logOf feed answer (recordEngine G p) (record { machine = resetOf G s; store = s }) cs
@@ -249,17 +205,3 @@ module _ (G : Geometry) (p s : List ℕ) where
   same-log cs e r = log-alike feed answer (recordEngine G p) (referenceEngine G p) (Tied G p) (tied-step G p) (tied-seen G p)
       (tied-code G p)
       (tied-room G p) (record { machine = resetOf G s; store = s }) (referenceReset s) cs (reset-tied e r)
-
-  pub reset-kept : geometryOk G ≡ true → resetRefusal s ≡ 0 → Kept G p (start G s)
-  unfolding resetOf storeOk zeros
-  reset-kept e r = record {
-    shaped = record {
-      regs = omega arith;
-      full = rw length-zeros (omega arith);
-      dirty = rw length-zeros (omega arith);
-      block = rw length-zeros (omega arith);
-      words = rw length-zeros (omega arith);
-    };
-    store = rw (reset-legal r) (eq-eqb (length s) (length s) refl);
-    record-ok = accepted G p (resetOf G s) s (reset-tied e r .extra) (omega arith) (reset-tied e r .related);
-  }

@@ -15,25 +15,25 @@ use Rattle.trm_reference.specs.Access.{Answer, silent}
 use Rattle.trm_reference.specs.Trace.{After, pinsOf, clocks, endOf, outsOf, finishedIn}
 use Rattle.trm_reference.proofs.Laws.Trace.{pins-take}
 use Rattle.trm_core.specs.Record as core
-use Rattle.trm_core.specs.Record.{Lent}
+use Rattle.trm_core.specs.Record.{Lent, start}
 use Rattle.trm_core.specs.Clock.{clockOf}
 use Rattle.trm_core.specs.Refusals.{resetRefusal, clockRefusal, runRefusal}
 use Rattle.trm_core.specs.Run.{bytesOf, wordsOf, Ran, historyOf, runOf}
 use Rattle.trm_refusals.specs.Numbers.{numberOf as refusalNumber}
 use Rattle.trm_engine.specs.declared.machine.Machine.{Machine}
-use Rattle.trm_engine.specs.Machine.{recordOf}
+use Rattle.trm_engine.specs.Machine.{recordOf, lent}
 use Rattle.trm_calls.specs.declared.answer.Reset.{Reset}
 use Rattle.trm_calls.specs.declared.answer.Clock.{Clock}
 use Rattle.trm_calls.specs.declared.answer.Run.{Run}
 use Rattle.trm_calls.specs.Outcome as outcome
-use Rattle.trm_calls.specs.Outcome.{lent, pins, resetGives, clockGives, ran, runGives, ResetHolds, ClockHolds, RunHolds}
+use Rattle.trm_calls.specs.Outcome.{pins, resetGives, clockGives, ran, runGives, ResetHolds, ClockHolds, RunHolds}
 use Rattle.trm_plan.proofs.Laws.Facts.{paper-ok}
 use Rattle.trm_agreement.specs.Log.{started, clocked, ended, clocksOf, entries, calls, logOf, returnsIn}
 use Rattle.trm_agreement.specs.Calls.{Call, clockCall, runCall, feed, answer, Ended, runEnds, numberOf}
 use Rattle.trm_agreement.specs.Calls.{recordSeen, recordCode, recordEngine}
 use Rattle.trm_agreement.specs.Exchange.{Returned, clockReturned, runReturned, codeReturned, machineLeft, storeLeft}
 use Rattle.trm_agreement.specs.Exchange.{Meets, Exchange, shown, endedBy, exchangeLog, exchangeOf}
-use Rattle.trm_agreement.specs.Claims.{All, start, SameExchange, ExchangeNeverFive, Refused, RunPrefix}
+use Rattle.trm_agreement.specs.Claims.{All, SameExchange, ExchangeNeverFive, Refused, RunPrefix}
 use Rattle.trm_agreement.specs.Contracts.{ResetMet}
 use Rattle.trm_agreement.proofs.Laws.Contracts.{reset-says, clock-says, run-says}
 use Rattle.trm_agreement.proofs.Laws.Demand.{same-log}

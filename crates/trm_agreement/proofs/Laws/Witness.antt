@@ -24,9 +24,9 @@ use Rattle.trm_refusals.specs.Numbers.{numberOf as refusalNumber}
 use Rattle.trm_refusals.specs.declared.refusal.Refusal.{Refusal}
 use Rattle.trm_refusals.specs.declared.refusal.Refusal.the-variants.{Accepted, Program, Store, Record, Lines, Buffers, Clocks}
 use Rattle.trm_engine.specs.declared.machine.Machine.{Machine}
-use Rattle.trm_engine.specs.Machine.{recordOf}
+use Rattle.trm_engine.specs.Machine.{recordOf, lent}
 use Rattle.trm_calls.specs.declared.answer.Reset.{Reset}
-use Rattle.trm_calls.specs.Outcome.{lent, pins, resetGives, clockGives, runGives}
+use Rattle.trm_calls.specs.Outcome.{pins, resetGives, clockGives, runGives}
 use Rattle.trm_agreement.specs.Calls.{Call, clockCall, runCall}
 use Rattle.trm_agreement.specs.Contracts.{ResetMet}
 use Rattle.trm_agreement.specs.Exchange.{Returned, clockReturned, runReturned, machineLeft, storeLeft, Meets, Exchange}

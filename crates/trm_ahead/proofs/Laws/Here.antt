@@ -22,7 +22,7 @@ use Rattle.trm_core.specs.Clock.{Moved, moved, worked, unheld, heldClock, clock
 use Rattle.trm_core.proofs.Laws.Rows.{legal-of}
 use Rattle.trm_plan.specs.Plan.{Good, Does}
 use Rattle.trm_plan.proofs.Laws.Facts.{good-at}
-use Rattle.trm_clock.proofs.Laws.Worked.{rests, goes-worked}
+use Rattle.trm_plan.proofs.Laws.Worked.{rests, goes-worked}
 use Rattle.trm_ahead.specs.declared.inner.going.Going.{Going}
 use Rattle.trm_ahead.specs.Reached.{point, Reached}
 

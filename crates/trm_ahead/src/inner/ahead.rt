@@ -14,8 +14,8 @@ ghost use Rattle.trm_core.specs.Rule.{countsOk};
 ghost use Rattle.trm_ahead.specs.Reached.{point, Under, Stands, Quietly};
 use crate::inner::going::Going;
 use trm_cache::inner::bursts;
-use trm_clock::inner::flight;
 use trm_core::record::Scalars;
+use trm_motion::inner::motion;
 use trm_reading::inner::reading;
 use trm_steps::inner::interrupt;
 use trm_steps::inner::scalars;
@@ -178,7 +178,7 @@ pub fn write_ahead(
 {
     let mut c = g.scalars;
     let clears = reading::turns_cache_off(c, regs, w);
-    let l = flight::line_of_burst(
+    let l = motion::line_of_burst(
         c,
         regs,
         full,

@@ -8,8 +8,8 @@ ghost use lib.ListN.{length, getD, set};
 ghost use lib.Dec.{ltb};
 ghost use Rattle.trm_reference.specs.Interrupt.{stalled};
 ghost use Rattle.trm_ahead.specs.Reached.{Room};
-use trm_clock::inner::outcome::Clocked;
 use trm_core::record::Scalars;
+use trm_plan::inner::outcome::Clocked;
 use trm_steps::inner::interrupt;
 
 // The scalars, the clocks done, the words carried out.

@@ -14,13 +14,13 @@ ghost use Rattle.trm_cache.specs.Cache.{cache, allEmptied};
 ghost use Rattle.trm_core.specs.Record.{gathered, whole};
 ghost use Rattle.trm_core.specs.Clock.{cacheAfter, storeAfter, finish};
 ghost use Rattle.trm_plan.specs.Plan.{Good};
-ghost use Rattle.trm_clock.specs.Made.{Late, made};
-use crate::inner::outcome;
-use crate::inner::outcome::Clocked;
+ghost use Rattle.trm_plan.specs.Made.{Late, made};
 use trm_cache::inner::lines;
 use trm_cache::inner::off;
 use trm_core::record::Scalars;
 use trm_execute::inner::words as carry;
+use trm_plan::inner::outcome;
+use trm_plan::inner::outcome::Clocked;
 use trm_reading::inner::reading;
 use trm_word::inner::address::Place;
 

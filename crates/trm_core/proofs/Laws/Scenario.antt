@@ -1,12 +1,9 @@
 -- The scenario, computed by the checker.
 -- Idea: numbers are compared by a test that computes to true; the terms they come from are never compared.
 -- Assumes nothing.
-use Prim.Native.Nat.{ℕ}
-use mathlib.Core.Path.{_≡_, refl, ap₂}
-use mathlib.Core.Bool.{Bool, true, false, false≢true, _&&_, and-eq-true-iff}
-use mathlib.Core.List.{List, [], _∷_}
-use lib.Dec.{eqb}
+use mathlib.Core.Path.{refl}
 use borrow.Author.Tests.{eqb-true}
+use Rattle.trm_laws.proofs.Table.{same, same-true}
 use Rattle.trm_alu.specs.Word.{signed, word}
 use Rattle.trm_alu.specs.Multiply.{product, lowWord, highWord, partialProduct, mulAfter}
 use Rattle.trm_alu.specs.Divide.{above0, floorDiv, floorMod, quotient, remainder, taken, divRem, divQuot}
@@ -38,20 +35,6 @@ use Rattle.trm_core.specs.Scenario.{seenNumbers, runningNumbers, countNu
 use Rattle.trm_core.specs.Scenario.{recordNumbers, referenceNumbers, recordDigest, referenceDigest, finishesOf, finishes}
 use Rattle.trm_core.specs.Scenario.{phases, expectedRecordDigest, expectedReferenceDigest, expectedFinishes, expectedPhases}
 use Rattle.trm_core.specs.Claims.{ScenarioHolds}
-
-same : List ℕ → List ℕ → Bool
-same [] [] = true
-same [] (y ∷ ys) = false
-same (x ∷ xs) [] = false
-same (x ∷ xs) (y ∷ ys) = eqb x y && same xs ys
-
-same-true : (xs ys : List ℕ) → same xs ys ≡ true → xs ≡ ys
-unfolding same
-same-true [] [] t = refl
-same-true [] (y ∷ ys) t = absurd (false≢true t)
-same-true (x ∷ xs) [] t = absurd (false≢true t)
-same-true (x ∷ xs) (y ∷ ys) t =
-    let p = and-eq-true-iff (eqb x y) (same xs ys) .0 t in ap₂ _∷_ (eqb-true x y (p .0)) (same-true xs ys (p .1))
 
 pub scenario-holds : ScenarioHolds
 unfolding same signed word product lowWord highWord partialProduct mulAfter above0 floorDiv floorMod quotient remainder taken divRem

@@ -17,6 +17,7 @@ ghost use Rattle.trm_core.specs.Run.{runOf};
 ghost use Rattle.trm_steps.specs.Steps.{Multiplies, Divides, multiplied, dividedBy};
 ghost use Rattle.trm_engine.specs.Machine.{recordOf, withRunning, ticked, ranTo};
 use crate::inner::clear;
+use crate::inner::turn;
 use crate::machine::Machine;
 use trm_ahead::inner::going::Going;
 use trm_reading::inner::reading;
@@ -70,7 +71,7 @@ impl Machine {
             finished: 0,
         };
         while g.at < lines.len() {
-            g = trm_turns::inner::turn::turn(
+            g = turn::turn(
                 g,
                 program,
                 &mut regs,

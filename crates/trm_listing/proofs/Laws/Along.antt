@@ -12,10 +12,12 @@ use Rattle.trm_image.specs.Records.{begins}
 use Rattle.trm_image.specs.Refused.{countAt, lineAt, inputAt}
 use Rattle.trm_image.specs.Meaning.{runsIn}
 use Rattle.trm_image.proofs.Laws.Runs.{Next, runs-next, runs-end}
-use Rattle.trm_listing.specs.declared.inner.listed.Listed.{Listed}
+use Rattle.trm_lines.specs.declared.inner.listed.Listed.{Listed}
 use Rattle.trm_listing.specs.declared.inner.runs.Place.{Place}
-use Rattle.trm_listing.specs.Listing.{pinsOfRuns, endLine}
-use Rattle.trm_listing.specs.Rest.{textFrom, lentOf, Onward, pinsAt, pinsLeft, Stands, Along}
+use Rattle.trm_lines.specs.Lines.{endLine}
+use Rattle.trm_listing.specs.Listing.{pinsOfRuns}
+use Rattle.trm_lines.specs.Onward.{textFrom, lentOf, Onward}
+use Rattle.trm_listing.specs.Rest.{pinsAt, pinsLeft, Stands, Along}
 
 module _ (s p : List ℕ) where
   pub along-then : {q q′ q″ : Place} {x x′ x″ : Lent} {b b′ b″ : List ℕ} → Along s p q x b q′ x′ b′ → Along s p q′ x′ b′ q″ x″ b″

@@ -15,10 +15,11 @@ use Rattle.trm_core.specs.declared.record.Scalars.{Scalars}
 use Rattle.trm_core.specs.Record.{Lent, whole, waited}
 use Rattle.trm_core.specs.Clock.{clockOf}
 use Rattle.trm_ahead.proofs.Laws.Here.{held-here}
-use Rattle.trm_listing.specs.declared.inner.listed.Listed.{Listed}
-use Rattle.trm_listing.specs.Rest.{textFrom, heldBy, lentOf, Able, Onward}
-use Rattle.trm_listing.proofs.Laws.Text.{text-held}
-use Rattle.trm_listing.proofs.Laws.Onward.{able-clock}
+use Rattle.trm_lines.specs.declared.inner.listed.Listed.{Listed}
+use Rattle.trm_lines.specs.Onward.{textFrom, lentOf, Able, Onward}
+use Rattle.trm_listing.specs.Rest.{heldBy}
+use Rattle.trm_lines.proofs.Laws.Text.{text-held}
+use Rattle.trm_lines.proofs.Laws.Onward.{able-clock}
 
 held-none : (c : Scalars) → c ≡ heldBy c 0
 held-none c =

@@ -14,9 +14,11 @@ use Rattle.trm_cache.specs.Cache.{Cache}
 use Rattle.trm_core.specs.Record.{Lent}
 use Rattle.trm_listing.specs.declared.inner.finish.Ended.{Ended}
 use Rattle.trm_listing.specs.declared.inner.runs.Place.{Place}
-use Rattle.trm_listing.specs.Listing.{endLine}
-use Rattle.trm_listing.specs.Rest.{textFrom, lentOf, pinsLeft, Stands, Along}
-use Rattle.trm_listing.specs.Pieces.{EndHolds}
+use Rattle.trm_lines.specs.Lines.{endLine}
+use Rattle.trm_lines.specs.Onward.{textFrom, lentOf}
+use Rattle.trm_listing.specs.Rest.{pinsLeft, Stands, Along}
+use Rattle.trm_listing.specs.declared.inner.pieces.Listing.{Listing}
+use Rattle.trm_listing.specs.Pieces.{restOf, EndHolds}
 use Rattle.trm_listing.proofs.Laws.Along.{along-end}
 
 -- another buffer
@@ -63,3 +65,8 @@ module _ (s p : List ℕ) (q : Place) (x : Lent) (b : List ℕ) (q′ : Place) (
       go : (t : Bool) → eqb (q′ .listed .left) 0 ≡ t → q′ .listed .len ≤ e .len → 0 < e .len
       go true z n = omega (arith, n, h .full o (eqb-true (q′ .listed .left) 0 z))
       go false z n = omega (arith, n, big, full (eqb-false (q′ .listed .left) 0 z))
+
+-- nothing once a listing is over
+pub none-left : (s p st : List ℕ) (l : Listing) → l .over ≡ true → restOf s p st l ≡ []
+unfolding restOf
+none-left s p st l e = rw e

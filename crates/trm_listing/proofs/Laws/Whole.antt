@@ -17,16 +17,18 @@ use Rattle.trm_core.specs.Clock.{clockOf}
 use Rattle.trm_core.specs.Claims.{Kept}
 use Rattle.trm_core.specs.Refusals.{resetRefusal}
 use Rattle.trm_plan.proofs.Laws.Facts.{paper-ok}
-use Rattle.trm_agreement.proofs.Laws.Demand.{reset-kept}
+use Rattle.trm_core.proofs.Laws.Reset.{reset-kept}
 use Rattle.trm_image.specs.Records.{lengthAt, wordsAt, begins}
 use Rattle.trm_image.specs.Refused.{imageFault}
 use Rattle.trm_image.specs.Meaning.{Image, imageOf, runsIn}
 use Rattle.trm_image.proofs.Laws.Accepted.{Head, accepted-head, length-wordsAt}
 use Rattle.trm_text.specs.Lines.{Line, lineBytes, linesBytes, header, refusedBytes}
 use Rattle.trm_text.specs.Wrote.{Wrote}
-use Rattle.trm_listing.specs.Listing.{lineOf, tookAfter, linesFrom, pinsOfRuns, startOf, linesOf, finalOf, endLine}
+use Rattle.trm_lines.specs.Lines.{lineOf, tookAfter, linesFrom, endLine}
+use Rattle.trm_listing.specs.Listing.{pinsOfRuns, startOf, linesOf, finalOf}
 use Rattle.trm_listing.specs.Listing.{listingOf, outputOf}
-use Rattle.trm_listing.specs.Rest.{textFrom, Stands}
+use Rattle.trm_lines.specs.Onward.{textFrom}
+use Rattle.trm_listing.specs.Rest.{Stands}
 use Rattle.trm_listing.specs.Loaded.{Loaded}
 use Rattle.trm_listing.specs.Pieces.{programAfter}
 

@@ -8,15 +8,15 @@ ghost use Rattle.trm_image.specs.Numbers.{numberOf};
 ghost use Rattle.trm_listing.specs.Loaded.{Loadable, Loaded};
 ghost use Rattle.trm_listing.specs.Pieces.{Ready, StartHolds, PieceHolds};
 use crate::inner::finish;
-use crate::inner::listed::Listed;
 use crate::inner::runs;
 use crate::inner::runs::Place;
-use trm_calls::inner::start as reset;
+use trm_engine::inner::start as reset;
 use trm_engine::machine::Machine;
 use trm_image::fault::Fault;
 use trm_image::inner::bytes;
 use trm_image::inner::words as load;
 use trm_image::reader;
+use trm_lines::inner::listed::Listed;
 use trm_text::inner::lines;
 
 // The machine, the words of its program, where the next record begins; of the run in hand the clocks left, line byte and input word;

@@ -8,11 +8,12 @@ ghost use lib.ListN.{length};
 ghost use Rattle.trm_word.specs.Charge.{charges};
 ghost use Rattle.trm_cache.specs.Cache.{cache};
 ghost use Rattle.trm_image.specs.Refused.{countAt, lineAt, inputAt};
-ghost use Rattle.trm_listing.specs.Rest.{heldBy, lentOf, Able, Onward, Stands, Along};
-use crate::inner::clocks;
-use crate::inner::listed::Listed;
+ghost use Rattle.trm_lines.specs.Onward.{lentOf, Able, Onward};
+ghost use Rattle.trm_listing.specs.Rest.{heldBy, Stands, Along};
 use trm_core::record::Scalars;
 use trm_image::inner::bytes;
+use trm_lines::inner::clocks;
+use trm_lines::inner::listed::Listed;
 use trm_steps::inner::interrupt;
 
 // Where a listing stands in an image: in a run, and where the record after it begins.

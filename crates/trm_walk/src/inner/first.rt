@@ -9,14 +9,14 @@ ghost use Rattle.trm_cache.specs.Cache.{cache};
 ghost use Rattle.trm_core.specs.Record.{whole};
 ghost use Rattle.trm_core.specs.Clock.{worked};
 ghost use Rattle.trm_plan.specs.Plan.{Good};
-ghost use Rattle.trm_clock.specs.Made.{made};
+ghost use Rattle.trm_plan.specs.Made.{made};
 use trm_cache::inner::lines;
-use trm_clock::inner::motion;
-use trm_clock::inner::outcome;
-use trm_clock::inner::outcome::Clocked;
-use trm_clock::inner::ready;
+use trm_clock::inner::first as begun;
 use trm_core::record::Scalars;
 use trm_execute::inner::words as carry;
+use trm_motion::inner::motion;
+use trm_plan::inner::outcome;
+use trm_plan::inner::outcome::Clocked;
 use trm_reading::inner::reading;
 use trm_word::inner::address::Place;
 
@@ -107,10 +107,10 @@ pub fn first_clock(
         return outcome::carried(carry::short(c, regs, w));
     }
     match op {
-        0..=10 => ready::first_arithmetic(c, regs, full, dirty, block, words, store, w, input),
-        11 => ready::first_control(c, regs, full, dirty, block, words, store, w, input),
+        0..=10 => begun::first_arithmetic(c, regs, full, dirty, block, words, store, w, input),
+        11 => begun::first_control(c, regs, full, dirty, block, words, store, w, input),
         12 => first_load(c, regs, full, dirty, block, words, store, w, input),
-        13 => ready::first_store(c, regs, full, dirty, block, words, store, w, input),
+        13 => begun::first_store(c, regs, full, dirty, block, words, store, w, input),
         14 => first_branch(c, regs, full, dirty, block, words, store, w, input),
         _ => outcome::enters(c, 5, 0),
     }

@@ -10,15 +10,15 @@ ghost use Rattle.trm_cache.specs.Cache.{cache};
 ghost use Rattle.trm_core.specs.Record.{whole};
 ghost use Rattle.trm_core.specs.Clock.{worked};
 ghost use Rattle.trm_plan.specs.Plan.{Good};
-ghost use Rattle.trm_clock.specs.Made.{made};
+ghost use Rattle.trm_plan.specs.Made.{made};
 ghost use Rattle.trm_ahead.specs.Reached.{point, Under, Quietly};
 use trm_ahead::inner::ahead;
 use trm_ahead::inner::going::Going;
 use trm_ahead::inner::serial;
-use trm_clock::inner::flight;
 use trm_clock::inner::last;
-use trm_clock::inner::outcome::Clocked;
 use trm_core::record::Scalars;
+use trm_flight::inner::flight;
+use trm_plan::inner::outcome::Clocked;
 
 // The clocks of the phase but for its last; none in phase 5.
 pub fn flight_ahead(

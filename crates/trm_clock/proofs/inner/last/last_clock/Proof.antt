@@ -1,7 +1,7 @@
 -- The proof of trm_clock::inner::last::last_clock.
 use native.Mathlib.Omega.{arith}
-use Rattle.trm_clock.proofs.Laws.Words.{other-made}
-use Rattle.trm_clock.proofs.Laws.Words.{call-left}
+use Rattle.trm_plan.proofs.Laws.Words.{other-made}
+use Rattle.trm_plan.proofs.Laws.Words.{call-left}
 use borrow.Author.Needs.{needs}
 use Rattle.trm_clock.proofs.inner.last.last_clock.Statement.{statement}
 use Rattle.trm_clock.proofs.inner.last.last_clock.Tie as tie

@@ -1,6 +1,6 @@
 -- The proof of trm_clock::inner::last::last_control.
-use Rattle.trm_clock.proofs.Laws.Words.{control-made}
-use Rattle.trm_clock.proofs.Laws.Words.{jump-keeps}
+use Rattle.trm_plan.proofs.Laws.Words.{control-made}
+use Rattle.trm_plan.proofs.Laws.Words.{jump-keeps}
 use borrow.Author.Needs.{needs}
 use Rattle.trm_clock.proofs.inner.last.last_control.Statement.{statement}
 use Rattle.trm_clock.proofs.inner.last.last_control.Tie as tie

@@ -2,8 +2,8 @@
 use mathlib.Core.Path.{refl, sym, _∙_}
 use native.Mathlib.Omega.{arith}
 use Rattle.trm_reading.proofs.Laws.Device.{device-below}
-use Rattle.trm_clock.proofs.Laws.Last.{place-in}
-use Rattle.trm_clock.proofs.Laws.Words.{load-made, read-made}
+use Rattle.trm_plan.proofs.Laws.Last.{place-in}
+use Rattle.trm_plan.proofs.Laws.Words.{load-made, read-made}
 use borrow.Author.Needs.{needs}
 use Rattle.trm_clock.proofs.inner.last.last_load.Statement.{statement}
 use Rattle.trm_clock.proofs.inner.last.last_load.Tie as tie

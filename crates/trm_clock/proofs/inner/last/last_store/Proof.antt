@@ -1,6 +1,6 @@
 -- The proof of trm_clock::inner::last::last_store.
 use Rattle.trm_execute.proofs.Laws.{execute-store}
-use Rattle.trm_clock.proofs.Laws.Words.{store-made}
+use Rattle.trm_plan.proofs.Laws.Words.{store-made}
 use borrow.Author.Needs.{needs}
 use Rattle.trm_clock.proofs.inner.last.last_store.Statement.{statement}
 use Rattle.trm_clock.proofs.inner.last.last_store.Tie as tie

@@ -1,7 +1,7 @@
 -- The proof of trm_clock::inner::last::store_at.
 use native.Mathlib.Omega.{arith}
 use mathlib.Core.Path.{sym, _∙_}
-use Rattle.trm_clock.proofs.Laws.Last.{place-in, cached-cache, cached-store, uncached-cache, uncached-store}
+use Rattle.trm_plan.proofs.Laws.Last.{place-in, cached-cache, cached-store, uncached-cache, uncached-store}
 use borrow.Author.Needs.{needs}
 use Rattle.trm_clock.proofs.inner.last.store_at.Statement.{statement}
 use Rattle.trm_clock.proofs.inner.last.store_at.Tie as tie

@@ -1,6 +1,6 @@
 -- The proof of trm_clock::inner::last::store_word.
 use mathlib.Core.Path.{sym, _∙_}
-use Rattle.trm_clock.proofs.Laws.Last.{device-cache, device-store}
+use Rattle.trm_plan.proofs.Laws.Last.{device-cache, device-store}
 use borrow.Author.Needs.{needs}
 use Rattle.trm_clock.proofs.inner.last.store_word.Statement.{statement}
 use Rattle.trm_clock.proofs.inner.last.store_word.Tie as tie

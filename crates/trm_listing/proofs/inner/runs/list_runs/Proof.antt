@@ -6,7 +6,8 @@ use native.Mathlib.Omega.{arith}
 use Prim.Native.Nat.{_+_, _-_, _<_}
 use lib.ListN.{length}
 use Rattle.trm_cache.specs.Cache.{cache}
-use Rattle.trm_listing.specs.Rest.{lentOf, Along}
+use Rattle.trm_lines.specs.Onward.{lentOf}
+use Rattle.trm_listing.specs.Rest.{Along}
 use Rattle.trm_listing.proofs.Laws.Along.{along-none, along-then, along-next}
 use Rattle.trm_listing.proofs.inner.runs.list_runs.Statement.{statement}
 use Rattle.trm_listing.proofs.inner.runs.list_runs.Tie as tie

@@ -5,8 +5,8 @@ use Rattle.trm_plan.proofs.Laws.Facts.{facts}
 use Rattle.trm_plan.proofs.Laws.Kinds.{kind-taken, kind-not-taken}
 use Rattle.trm_plan.proofs.Laws.Plans.{first-second, first-quick}
 use Rattle.trm_execute.proofs.Laws.{execute-not-taken}
-use Rattle.trm_clock.proofs.Laws.Worked.{goes-worked, ends-worked}
-use Rattle.trm_clock.proofs.Laws.Words.{other-made}
+use Rattle.trm_plan.proofs.Laws.Worked.{goes-worked, ends-worked}
+use Rattle.trm_plan.proofs.Laws.Words.{other-made}
 use borrow.Author.Needs.{needs}
 use Rattle.trm_walk.proofs.inner.first.first_branch.Statement.{statement}
 use Rattle.trm_walk.proofs.inner.first.first_branch.Tie as tie

@@ -4,8 +4,8 @@ use native.Mathlib.Omega.{arith}
 use Rattle.trm_plan.proofs.Laws.Facts.{facts}
 use Rattle.trm_plan.proofs.Laws.Kinds.{kind-call, kind-short, unstepped-of}
 use Rattle.trm_plan.proofs.Laws.Plans.{first-second, first-quick, idle-running}
-use Rattle.trm_clock.proofs.Laws.Worked.{goes-worked, ends-worked}
-use Rattle.trm_clock.proofs.Laws.Words.{call-left, other-made}
+use Rattle.trm_plan.proofs.Laws.Worked.{goes-worked, ends-worked}
+use Rattle.trm_plan.proofs.Laws.Words.{call-left, other-made}
 use borrow.Author.Needs.{needs}
 use Rattle.trm_walk.proofs.inner.first.first_clock.Statement.{statement}
 use Rattle.trm_walk.proofs.inner.first.first_clock.Tie as tie

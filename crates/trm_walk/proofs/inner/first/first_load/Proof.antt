@@ -4,8 +4,8 @@ use borrow.Author.Tests.{not-true, not-false}
 use Rattle.trm_plan.proofs.Laws.Facts.{facts}
 use Rattle.trm_plan.proofs.Laws.Kinds.{load-access, kind-device, kind-cached, kind-uncached, hits-at}
 use Rattle.trm_plan.proofs.Laws.Plans.{first-device-load, first-wait, first-miss-at, first-hit-load, idle-running}
-use Rattle.trm_clock.proofs.Laws.Worked.{goes-worked}
-use Rattle.trm_clock.proofs.Laws.Words.{wait-is, not-store}
+use Rattle.trm_plan.proofs.Laws.Worked.{goes-worked}
+use Rattle.trm_plan.proofs.Laws.Words.{wait-is, not-store}
 use borrow.Author.Needs.{needs}
 use Rattle.trm_walk.proofs.inner.first.first_load.Statement.{statement}
 use Rattle.trm_walk.proofs.inner.first.first_load.Tie as tie

@@ -1,8 +1,8 @@
 -- The proof of trm_walk::inner::flight::flight_clock.
 use Rattle.trm_plan.proofs.Laws.Flight.{due-ends}
 use Rattle.trm_plan.proofs.Laws.Facts.{facts}
-use Rattle.trm_clock.proofs.Laws.Late.{late}
-use Rattle.trm_clock.proofs.Laws.Worked.{ends-worked}
+use Rattle.trm_plan.proofs.Laws.Late.{late}
+use Rattle.trm_plan.proofs.Laws.Worked.{ends-worked}
 use borrow.Author.Needs.{needs}
 use Rattle.trm_walk.proofs.inner.flight.flight_clock.Statement.{statement}
 use Rattle.trm_walk.proofs.inner.flight.flight_clock.Tie as tie

@@ -1,0 +1,38 @@
+-- EVERY CLAIM of the project beside the functions' contracts: a field for the claims of each crate that has any, and what is claimed here.
+-- Demand 3 is `same-exchange` of `agreement`; demand 2's claims are those of `alu`, `codec` and `core`. The value is in
+-- proofs/Theorems.antt. Assumes nothing.
+use Rattle.trm_word.specs.Claims.{Claims as WordClaims}
+use Rattle.trm_codec.specs.Claims.{Claims as CodecClaims}
+use Rattle.trm_alu.specs.Claims.{Claims as AluClaims}
+use Rattle.trm_reference.specs.Claims.{Claims as ReferenceClaims}
+use Rattle.trm_cache.specs.Claims.{Claims as CacheClaims}
+use Rattle.trm_core.specs.Claims.{Claims as CoreClaims}
+use Rattle.trm_agreement.specs.Claims.{Claims as AgreementClaims}
+use Rattle.trm_image.specs.Claims.{Claims as ImageClaims}
+use Rattle.trm_text.specs.Claims.{Claims as TextClaims}
+use Rattle.trm_listing.specs.Claims.{Claims as ListingClaims}
+use Rattle.trm_claims.specs.Pieces.{PiecesAreOutput}
+
+pub record Claims : Type 0 where
+  -- words: addresses, conditions, charges
+  pub word : WordClaims
+  -- decode and encode are inverse
+  pub codec : CodecClaims
+  -- results, flags, multiplier and divider
+  pub alu : AluClaims
+  -- the plain machine on computed tables
+  pub reference : ReferenceClaims
+  -- bursts are block copies
+  pub cache : CacheClaims
+  -- each clock of an accepted record, and the scenario
+  pub core : CoreClaims
+  -- DEMAND 3
+  pub agreement : AgreementClaims
+  -- which bytes are images
+  pub image : ImageClaims
+  -- the bytes of a line
+  pub text : TextClaims
+  -- listings written out
+  pub listing : ListingClaims
+  -- the pieces of a listing are the output
+  pub pieces-are-output : PiecesAreOutput

@@ -1,0 +1,5 @@
+-- Every claim of the project.
+-- Paper: the three demands.
+-- Assumes nothing.
+pub mod Pieces
+pub mod Claims

@@ -1,0 +1,3 @@
+// Every claim of the project, in one record with one value. No code.
+// Paper: the three demands.
+// The record is specs/Claims.antt, the value proofs/Theorems.antt.

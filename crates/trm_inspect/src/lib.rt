@@ -1,0 +1,5 @@
+// The calls that look at a machine, for any caller and any input: look, copy, watch.
+// Paper: "A look gives one word of data memory .. Look, copy and watch come under the second demand".
+// No call has a `requires`, none changes the record, and every refused call leaves each lent buffer as it was.
+pub mod answer;
+pub mod calls;

@@ -1,0 +1,309 @@
+// The clocks of one run, unheld, one after another, with their lines.
+// Paper: "Kind 3 ..: count .., line byte, input word"; "an unfinished instruction has no line".
+// Clocks that cannot end a word go in one piece; each other clock stands alone, so that its line is known.
+ghost use mathlib.Core.Path.{_≡_};
+ghost use mathlib.Core.Logic.{_≢_};
+ghost use mathlib.Core.Bool.{false};
+ghost use mathlib.Core.List.{List};
+ghost use Prim.Native.Nat.{ℕ, _+_, _≤_, _<_};
+ghost use lib.ListN.{length};
+ghost use Rattle.trm_word.specs.Charge.{charges};
+ghost use Rattle.trm_reference.specs.Interrupt.{stalled, interruptChosen};
+ghost use Rattle.trm_cache.specs.Cache.{cache};
+ghost use Rattle.trm_lines.specs.Onward.{lentOf, Able, Onward};
+use crate::inner::listed;
+use crate::inner::listed::Listed;
+use trm_ahead::inner::going::Going;
+use trm_reading::inner::reading;
+use trm_steps::inner::interrupt;
+use trm_walk::inner::first;
+use trm_walk::inner::flight;
+
+// The smaller of two.
+fn least(a: usize, b: usize) -> usize
+    ensures { λ r. ⌜ (r ≤ a) × (r ≤ b) ⌝ }
+{
+    if a < b {
+        return a;
+    }
+    b
+}
+
+// A word in flight: the clocks that cannot be its last, one after another.
+fn gone_ahead(
+    l: Listed,
+    program: &[u32],
+    regs: &[u32; 16],
+    full: &[u8; 16],
+    dirty: &[u8; 16],
+    block: &[u16; 16],
+    words: &mut [u32; 128],
+    store: &mut [u32],
+    line: u8,
+    input: u32,
+    base: &[u64; 16],
+) -> Listed
+    requires { ⌜ Able (now program) (lentOf l (now regs) (cache (now full) (now dirty) (now block) (now words)) (now store))
+        (l .took) (l .left) (record { line = line; input = input })
+        × (stalled line ≡ false) × (l .scalars .running .phase ≢ 0) × (now base ≡ charges) ⌝ }
+    ensures { λ r. ⌜ ((b : List ℕ) → l .len ≤ length b → Onward (now (program .entry)) (record { line = line; input = input })
+        l (lentOf l (now (regs .entry)) (cache (now (full .entry)) (now (dirty .entry)) (now (block .entry)) (now (words .entry)))
+        (now (store .entry))) b
+        r (lentOf r (now (regs .entry)) (cache (now (full .entry)) (now (dirty .entry)) (now (block .entry)) (now (words .exit)))
+        (now (store .exit))) b)
+        × (r .scalars .pc ≡ l .scalars .pc) × (r .scalars .running .phase ≢ 0) × (r .len ≡ l .len) ⌝ }
+{
+    let c = l.scalars;
+    let w = reading::word_at(program, c.pc);
+    let lines = [line; 64];
+    let m = least(l.left, 64);
+    let g = Going {
+        scalars: c,
+        at: 0,
+        finished: 0,
+    };
+    let h = flight::flight_ahead(
+        g,
+        regs,
+        full,
+        dirty,
+        block,
+        words,
+        store,
+        w,
+        &lines[..m],
+        base,
+    );
+    let ahead = h.scalars;
+    Listed {
+        scalars: ahead,
+        left: l.left - h.at,
+        took: l.took + h.at as u64,
+        len: l.len,
+    }
+}
+
+// A word in flight: the clocks that cannot be its last, and one more.
+fn goes_on(
+    l: Listed,
+    program: &[u32],
+    regs: &mut [u32; 16],
+    full: &mut [u8; 16],
+    dirty: &mut [u8; 16],
+    block: &mut [u16; 16],
+    words: &mut [u32; 128],
+    store: &mut [u32],
+    line: u8,
+    input: u32,
+    base: &[u64; 16],
+    buf: &mut [u8],
+) -> Listed
+    requires { ⌜ Able (now program) (lentOf l (now regs) (cache (now full) (now dirty) (now block) (now words)) (now store))
+        (l .took) (l .left) (record { line = line; input = input })
+        × (0 < l .left) × (l .len + 32 ≤ length (now buf)) × (stalled line ≡ false)
+        × (l .scalars .running .phase ≢ 0) × (now base ≡ charges) ⌝ }
+    ensures { λ r. ⌜ Onward (now (program .entry)) (record { line = line; input = input })
+        l (lentOf l (now (regs .entry)) (cache (now (full .entry)) (now (dirty .entry)) (now (block .entry)) (now (words .entry)))
+        (now (store .entry))) (now (buf .entry))
+        r (lentOf r (now (regs .exit)) (cache (now (full .exit)) (now (dirty .exit)) (now (block .exit)) (now (words .exit)))
+        (now (store .exit))) (now (buf .exit)) × (r .left < l .left) ⌝ }
+{
+    let gone = gone_ahead(
+        l,
+        program,
+        regs,
+        full,
+        dirty,
+        block,
+        words,
+        store,
+        line,
+        input,
+        base,
+    );
+    if gone.left == 0 {
+        return gone;
+    }
+    let c = gone.scalars;
+    let w = reading::word_at(program, c.pc);
+    let r = flight::flight_clock(c, regs, full, dirty, block, words, store, w, input, base);
+    listed::went(gone, r, w, buf)
+}
+
+// Nothing is in flight and no interrupt is taken: the word at PC begins.
+fn begins(
+    l: Listed,
+    program: &[u32],
+    regs: &mut [u32; 16],
+    full: &mut [u8; 16],
+    dirty: &mut [u8; 16],
+    block: &mut [u16; 16],
+    words: &mut [u32; 128],
+    store: &mut [u32],
+    line: u8,
+    input: u32,
+    buf: &mut [u8],
+) -> Listed
+    requires { ⌜ Able (now program) (lentOf l (now regs) (cache (now full) (now dirty) (now block) (now words)) (now store))
+        (l .took) (l .left) (record { line = line; input = input })
+        × (0 < l .left) × (l .len + 32 ≤ length (now buf)) × (stalled line ≡ false)
+        × (l .scalars .running .phase ≡ 0) × (interruptChosen (l .scalars .status) line ≡ 0) ⌝ }
+    ensures { λ r. ⌜ Onward (now (program .entry)) (record { line = line; input = input })
+        l (lentOf l (now (regs .entry)) (cache (now (full .entry)) (now (dirty .entry)) (now (block .entry)) (now (words .entry)))
+        (now (store .entry))) (now (buf .entry))
+        r (lentOf r (now (regs .exit)) (cache (now (full .exit)) (now (dirty .exit)) (now (block .exit)) (now (words .exit)))
+        (now (store .exit))) (now (buf .exit)) × (r .left < l .left) ⌝ }
+{
+    let w = reading::word_at(program, l.scalars.pc);
+    let r = first::first_clock(l.scalars, regs, full, dirty, block, words, store, w, input);
+    listed::went(l, r, w, buf)
+}
+
+// Nothing is in flight, and the interrupt that goes to this PC is taken.
+fn interrupts(
+    l: Listed,
+    program: &[u32],
+    regs: &mut [u32; 16],
+    full: &[u8; 16],
+    dirty: &[u8; 16],
+    block: &[u16; 16],
+    words: &[u32; 128],
+    store: &[u32],
+    line: u8,
+    input: u32,
+    to: u64,
+    buf: &mut [u8],
+) -> Listed
+    requires { ⌜ Able (now program) (lentOf l (now regs) (cache (now full) (now dirty) (now block) (now words)) (now store))
+        (l .took) (l .left) (record { line = line; input = input })
+        × (0 < l .left) × (l .len + 32 ≤ length (now buf)) × (stalled line ≡ false)
+        × (l .scalars .running .phase ≡ 0) × (to ≡ interruptChosen (l .scalars .status) line) × (to ≢ 0) ⌝ }
+    ensures { λ r. ⌜ Onward (now (program .entry)) (record { line = line; input = input })
+        l (lentOf l (now (regs .entry)) (cache (now (full .entry)) (now (dirty .entry)) (now (block .entry)) (now (words .entry)))
+        (now (store .entry))) (now (buf .entry))
+        r (lentOf r (now (regs .exit)) (cache (now (full .entry)) (now (dirty .entry)) (now (block .entry)) (now (words .entry)))
+        (now (store .entry))) (now (buf .exit)) × (r .left < l .left) ⌝ }
+{
+    let c = interrupt::take_interrupt(l.scalars, regs, to);
+    listed::interrupted(l, c, to, buf)
+}
+
+// One clock, or those of a word in flight up to one that may end it.
+fn one_turn(
+    l: Listed,
+    program: &[u32],
+    regs: &mut [u32; 16],
+    full: &mut [u8; 16],
+    dirty: &mut [u8; 16],
+    block: &mut [u16; 16],
+    words: &mut [u32; 128],
+    store: &mut [u32],
+    line: u8,
+    input: u32,
+    base: &[u64; 16],
+    buf: &mut [u8],
+) -> Listed
+    requires { ⌜ Able (now program) (lentOf l (now regs) (cache (now full) (now dirty) (now block) (now words)) (now store))
+        (l .took) (l .left) (record { line = line; input = input })
+        × (0 < l .left) × (l .len + 32 ≤ length (now buf)) × (stalled line ≡ false) × (now base ≡ charges) ⌝ }
+    ensures { λ r. ⌜ Onward (now (program .entry)) (record { line = line; input = input })
+        l (lentOf l (now (regs .entry)) (cache (now (full .entry)) (now (dirty .entry)) (now (block .entry)) (now (words .entry)))
+        (now (store .entry))) (now (buf .entry))
+        r (lentOf r (now (regs .exit)) (cache (now (full .exit)) (now (dirty .exit)) (now (block .exit)) (now (words .exit)))
+        (now (store .exit))) (now (buf .exit)) × (r .left < l .left) ⌝ }
+{
+    if l.scalars.running.phase != 0 {
+        return goes_on(
+            l,
+            program,
+            regs,
+            full,
+            dirty,
+            block,
+            words,
+            store,
+            line,
+            input,
+            base,
+            buf,
+        );
+    }
+    let to = interrupt::interrupt_chosen(l.scalars.status, line);
+    if to != 0 {
+        return interrupts(
+            l,
+            program,
+            regs,
+            full,
+            dirty,
+            block,
+            words,
+            store,
+            line,
+            input,
+            to,
+            buf,
+        );
+    }
+    begins(
+        l,
+        program,
+        regs,
+        full,
+        dirty,
+        block,
+        words,
+        store,
+        line,
+        input,
+        buf,
+    )
+}
+
+// The clocks of a run, until they are over or the buffer has no room for a line.
+pub fn list_clocks(
+    l: Listed,
+    program: &[u32],
+    regs: &mut [u32; 16],
+    full: &mut [u8; 16],
+    dirty: &mut [u8; 16],
+    block: &mut [u16; 16],
+    words: &mut [u32; 128],
+    store: &mut [u32],
+    line: u8,
+    input: u32,
+    base: &[u64; 16],
+    buf: &mut [u8],
+) -> Listed
+    requires { ⌜ Able (now program) (lentOf l (now regs) (cache (now full) (now dirty) (now block) (now words)) (now store))
+        (l .took) (l .left) (record { line = line; input = input })
+        × (l .len ≤ length (now buf)) × (stalled line ≡ false) × (now base ≡ charges) ⌝ }
+    ensures { λ r. ⌜ Onward (now (program .entry)) (record { line = line; input = input })
+        l (lentOf l (now (regs .entry)) (cache (now (full .entry)) (now (dirty .entry)) (now (block .entry)) (now (words .entry)))
+        (now (store .entry))) (now (buf .entry))
+        r (lentOf r (now (regs .exit)) (cache (now (full .exit)) (now (dirty .exit)) (now (block .exit)) (now (words .exit)))
+        (now (store .exit))) (now (buf .exit))
+        × (r .left ≢ 0 → length (now (buf .entry)) < r .len + 32) ⌝ }
+{
+    let mut g = l;
+    while 0 < g.left {
+        if buf.len() - g.len < 32 {
+            return g;
+        }
+        g = one_turn(
+            g,
+            program,
+            regs,
+            full,
+            dirty,
+            block,
+            words,
+            store,
+            line,
+            input,
+            base,
+            buf,
+        );
+    }
+    g
+}

@@ -1,0 +1,13 @@
+-- The proof of trm_motion::inner::motion::moves.
+use borrow.Author.Needs.{needs}
+use Rattle.trm_motion.proofs.inner.motion.moves.Statement.{statement}
+use Rattle.trm_motion.proofs.inner.motion.moves.Tie as tie
+
+in-phase-requires : tie.Need-in-phase-requires
+in-phase-requires c κs = search needs
+
+returns : tie.Need-returns
+returns c = rw (c .in-phase .ensures)
+
+pub moves-spec : {M : Type 1} → statement M
+moves-spec = tie.close (tie.spec in-phase-requires returns)
