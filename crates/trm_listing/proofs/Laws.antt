@@ -1,5 +1,6 @@
 -- The laws, one theme to a file.
--- `Held`: held clocks; `Along`: run after run; `Whole`: the whole output; `Load`: program and store; `Piece`: the pieces; `Examples`: computed.
+-- `Held`: held clocks; `Along`: run after run; `Whole`: the whole output; `Load`: program and store; `Piece`: one piece;
+-- `Examples`: listings computed.
 -- Assumes nothing.
 pub mod Held
 pub mod Along

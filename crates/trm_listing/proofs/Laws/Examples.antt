@@ -21,6 +21,7 @@ use Rattle.trm_reference.specs.Execute.{branched, called, execute}
 use Rattle.trm_reference.specs.Interrupt.{stalled, lineRaised, interruptChosen, savedWord, interrupted}
 use Rattle.trm_reference.specs.Charge.{isStepped, isJump, takesBranch, throughCache, pastCache, turnsCacheOff, missCharge}
 use Rattle.trm_reference.specs.Charge.{uncachedCharge, chargeBy}
+use Rattle.trm_reference.specs.History.{howMany}
 use Rattle.trm_reference.specs.Trace.{clocks, endOf}
 use Rattle.trm_cache.specs.Cache.{lineAt, holds, lineView, view, writeWord, fillWord, below, countDirty, lowest, firstDirty, emptyTo}
 use Rattle.trm_cache.specs.Cache.{allEmptied}
@@ -36,7 +37,8 @@ use Rattle.trm_text.specs.Numbers.{digits, places, decimal, hex}
 use Rattle.trm_text.specs.Lines.{shownBytes, lineBytes, linesBytes, endBytes, refusedBytes}
 use Rattle.trm_lines.specs.Lines.{interruptAt, carriesOut, lineOf as shownBy, tookAfter, linesFrom, endLine}
 use Rattle.trm_listing.specs.Listing.{pinsOfRuns, firstStore, startOf, linesOf, finalOf, listingOf, outputOf}
-use Rattle.trm_listing.specs.Examples.{Example, paperExample, interruptExample, cacheExample, refusedExample, examples, AllListed, ExamplesHold}
+use Rattle.trm_listing.specs.Examples.{Example, paperExample, interruptExample, cacheExample, refusedExample, examples}
+use Rattle.trm_listing.specs.Examples.{AllListed, ExamplesHold}
 
 pub examples-hold : ExamplesHold
 unfolding test same storeLengthOk signed word product lowWord highWord partialProduct mulAfter above0 floorDiv floorMod quotient
@@ -46,7 +48,7 @@ unfolding test same storeLengthOk signed word product lowWord highWord partialPr
     memoryIndex deviceNumber isAccess toMemory toDevice target targetBlock targetLine stored loaded deviceAnswer answerOf operandA
     operandB calculated statusSet returned jumped branchTaken branchTarget branched called execute stalled lineRaised
     interruptChosen savedWord interrupted isStepped isJump takesBranch throughCache pastCache turnsCacheOff missCharge
-    uncachedCharge chargeBy clocks endOf lineAt holds lineView view writeWord fillWord below countDirty lowest firstDirty emptyTo
+    uncachedCharge chargeBy howMany clocks endOf lineAt holds lineView view writeWord fillWord below countDirty lowest firstDirty emptyTo
     allEmptied productAt remainderAt quotientAt resetOf lineFor hits chargeHere isLast cacheAfter storeAfter finish written
     writing filling missing firstClock writeLine advance worked unheld heldClock clockOf allAtMost payloadAt wordsAt begins recordsOf
     cutShort lengthWrong countWrong inOrder wordWrong lineWrong faultAt firstFault storeFault imageFault wordsIn runsIn imageOf digits
