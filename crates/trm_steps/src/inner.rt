@@ -3,4 +3,5 @@
 // What each gives is a definition of trm_core, or of trm_reference over what is seen of `c` and `regs`.
 pub mod interrupt;
 pub mod scalars;
+pub mod start;
 pub mod steps;

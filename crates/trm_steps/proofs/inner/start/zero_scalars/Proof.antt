@@ -1,8 +1,8 @@
--- The proof of trm_engine::inner::start::zero_scalars.
+-- The proof of trm_steps::inner::start::zero_scalars.
 use Rattle.trm_core.specs.Record.{resetOf}
 use borrow.Author.Needs.{needs}
-use Rattle.trm_engine.proofs.inner.start.zero_scalars.Statement.{statement}
-use Rattle.trm_engine.proofs.inner.start.zero_scalars.Tie as tie
+use Rattle.trm_steps.proofs.inner.start.zero_scalars.Statement.{statement}
+use Rattle.trm_steps.proofs.inner.start.zero_scalars.Tie as tie
 
 no-counts-requires : tie.Need-no-counts-requires
 no-counts-requires c κs = search needs
