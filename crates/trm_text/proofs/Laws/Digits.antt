@@ -15,6 +15,20 @@ unfolding digits
 digits-long b zero n = refl
 digits-long b (suc k) n = length-append (digits b k (n / b)) (glyph (n % b) ∷ []) ∙ ap (λ l. l + 1) (digits-long b k (n / b)) ∙ omega arith
 
+-- a digit below 10 is `0` and so many more
+pub figure-is : (d : ℕ) → d < 10 → 48 + d ≡ glyph d
+figure-is zero h = refl
+figure-is (suc zero) h = refl
+figure-is (suc (suc zero)) h = refl
+figure-is (suc (suc (suc zero))) h = refl
+figure-is (suc (suc (suc (suc zero)))) h = refl
+figure-is (suc (suc (suc (suc (suc zero))))) h = refl
+figure-is (suc (suc (suc (suc (suc (suc zero)))))) h = refl
+figure-is (suc (suc (suc (suc (suc (suc (suc zero))))))) h = refl
+figure-is (suc (suc (suc (suc (suc (suc (suc (suc zero)))))))) h = refl
+figure-is (suc (suc (suc (suc (suc (suc (suc (suc (suc zero))))))))) h = refl
+figure-is (suc (suc (suc (suc (suc (suc (suc (suc (suc (suc n)))))))))) h = absurd (omega arith)
+
 -- the buffer was `old`; i digits of `rest` are to come, before those that stand there
 pub record Spelt (old : List ℕ) (at k n base i rest : ℕ) (new : List ℕ) : Type 0 where
   pub below : i ≤ k

@@ -1,6 +1,6 @@
 // A byte, digits and numbers, put into a buffer.
 // Paper: "three and five capital hexadecimal digits .. in decimal".
-// The base is a constant at each call, so that the compiler has no division left.
+// The base is a constant, so that the compiler has no division left.
 ghost use mathlib.Core.Path.{_≡_};
 ghost use mathlib.Core.List.{[], _∷_};
 ghost use Prim.Native.Nat.{_+_, _≤_, _<_};
@@ -44,18 +44,34 @@ fn glyph(d: u64) -> u8
     GLYPHS[d as usize]
 }
 
-// The last k digits of n, from the lowest on.
-fn spell(buf: &mut [u8], at: usize, k: usize, n: u64, base: u64) -> usize
-    requires { ⌜ (at + k ≤ length (now buf)) × (0 < base) × (base ≤ 16) ⌝ }
-    ensures { λ r. ⌜ Wrote (now (buf .entry)) at (digits base k n) (now (buf .exit)) r ⌝ }
+// A digit below 10; the table would be made anew at each place that reads it.
+fn figure(d: u64) -> u8
+    requires { ⌜ d < 10 ⌝ }
+    ensures { λ r. ⌜ r ≡ Numbers·glyph d ⌝ }
+{
+    (48 + d) as u8
+}
+
+// The last k decimal digits, from the lowest on, two at a time: the next two wait for one division by 100, and not for two by 10.
+fn spell_decimal(buf: &mut [u8], at: usize, k: usize, n: u64) -> usize
+    requires { ⌜ at + k ≤ length (now buf) ⌝ }
+    ensures { λ r. ⌜ Wrote (now (buf .entry)) at (digits 10 k n) (now (buf .exit)) r ⌝ }
 {
     let mut i = k;
     let mut rest = n;
-    while 0 < i {
+    while 1 < i {
+        let high = rest / 10;
         i -= 1;
-        buf[at + i] = glyph(rest % base);
-        rest = rest / base;
+        buf[at + i] = figure(rest % 10);
+        i -= 1;
+        buf[at + i] = figure(high % 10);
+        rest = high / 10;
     }
+    if i == 0 {
+        return at + k;
+    }
+    i -= 1;
+    buf[at + i] = figure(rest % 10);
     at + k
 }
 
@@ -98,12 +114,20 @@ pub fn put_decimal(buf: &mut [u8], at: usize, n: u64) -> usize
     ensures { λ r. ⌜ Wrote (now (buf .entry)) at (decimal n) (now (buf .exit)) r × (r ≤ at + 10) ⌝ }
 {
     let k = places(n);
-    spell(buf, at, k, n, 10)
+    spell_decimal(buf, at, k, n)
 }
 
+// The last k hexadecimal digits, from the lowest on.
 pub fn put_hex(buf: &mut [u8], at: usize, k: usize, n: u64) -> usize
     requires { ⌜ at + k ≤ length (now buf) ⌝ }
     ensures { λ r. ⌜ Wrote (now (buf .entry)) at (hex k n) (now (buf .exit)) r × (r ≡ at + k) ⌝ }
 {
-    spell(buf, at, k, n, 16)
+    let mut i = k;
+    let mut rest = n;
+    while 0 < i {
+        i -= 1;
+        buf[at + i] = glyph(rest % 16);
+        rest = rest / 16;
+    }
+    at + k
 }

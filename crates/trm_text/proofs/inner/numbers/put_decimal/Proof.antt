@@ -9,9 +9,9 @@ use Rattle.trm_text.proofs.inner.numbers.put_decimal.Tie as tie
 places-requires : tie.Need-places-requires
 places-requires c κs = search needs
 
-spell-requires : tie.Need-spell-requires
+spell-decimal-requires : tie.Need-spell-decimal-requires
 unfolding decimal
-spell-requires c κs = (omega (arith, c .before .before .before .pre, c .before .places .ensures .1), omega arith, omega arith)
+spell-decimal-requires c κs = omega (arith, c .before .before .before .pre, c .before .places .ensures .1)
 
 same-length : tie.Need-same-length
 same-length c = search needs
@@ -20,16 +20,16 @@ returns : tie.Need-returns
 unfolding decimal
 returns c =
     rw (← c .before .before .before .before .places .ensures .0) (
-      c .before .before .spell .ensures,
+      c .before .before .spell-decimal .ensures,
       omega (
         arith,
         c .before .before
             .before .before .places .ensures .1,
-        c .before .before .spell .ensures .next,
+        c .before .before .spell-decimal .ensures .next,
         digits-long 10 (c .before .before .before .before
             .places .result) (c .before .before .before .before .before .before .args .n),
       ),
     )
 
 pub put-decimal-spec : {M : Type 1} → statement M
-put-decimal-spec = tie.close (tie.spec places-requires spell-requires same-length returns)
+put-decimal-spec = tie.close (tie.spec places-requires spell-decimal-requires same-length returns)

@@ -1,29 +1,64 @@
 -- The proof of trm_text::inner::numbers::put_hex.
-use native.Mathlib.Omega.{arith}
 use Rattle.trm_text.specs.Numbers.{hex}
-use Rattle.trm_text.proofs.Laws.Digits.{digits-long}
+use mathlib.Core.Path.{refl}
+use native.Mathlib.Omega.{arith}
+use Rattle.trm_text.proofs.Laws.Digits.{Spelt, spelt-none, spelt-more, spelt-end}
 use borrow.Author.Needs.{needs}
 use Rattle.trm_text.proofs.inner.numbers.put_hex.Statement.{statement}
 use Rattle.trm_text.proofs.inner.numbers.put_hex.Tie as tie
+use Rattle.trm_text.proofs.inner.numbers.put_hex.Reads as reads
+use Rattle.trm_text.proofs.inner.numbers.put_hex.Lts as lts
+use Rattle.trm_text.proofs.inner.numbers.glyph.Reads as glyph-reads
 
-spell-requires : tie.Need-spell-requires
-unfolding hex
-spell-requires c κs = (c .before .before .pre, omega arith, omega arith)
+abbrev Inv-loop : tie.InvT-loop
+Inv-loop buf₀ at k n i₀ rest₀ buf i rest = Spelt buf₀ at k n 16 i rest buf
 
-same-length : tie.Need-same-length
+abbrev μ-loop : tie.MeasureT-loop
+μ-loop buf₀ at k n i₀ rest₀ buf i rest = i
+
+loop-holds : tie.Need-loop-holds Inv-loop μ-loop
+loop-holds c = spelt-none _ _ _ _ _ (c .before .pre)
+
+sub-i : tie.Need-sub-i Inv-loop μ-loop
+sub-i c = search needs
+
+glyph-requires : tie.Need-glyph-requires Inv-loop μ-loop
+glyph-requires c κs = search needs
+
+add-buf : tie.Need-add-buf Inv-loop μ-loop
+add-buf c = search needs
+
+slice-write-buf : tie.Need-slice-write-buf Inv-loop μ-loop
+slice-write-buf c = omega (arith, c .before .before .loop .inv .below, c .before .before .loop .inv .room, c .before .before .loop .inv .long)
+
+loop-less : tie.Need-loop-less Inv-loop μ-loop
+loop-less c = omega arith
+
+loop-again : tie.Need-loop-again Inv-loop μ-loop
+loop-again c = rw (c .glyph .ensures) (spelt-more _ (c .before .loop-test .taken) (c .before .before .loop .inv))
+
+add-result : tie.Need-add-result Inv-loop μ-loop
+add-result c = search needs
+
+same-length : tie.Need-same-length Inv-loop μ-loop
 same-length c = search needs
 
-returns : tie.Need-returns
-unfolding hex
-returns c = (
-  c .before .before .spell .ensures,
-  omega (
-    arith,
-    c .before .before .spell .ensures .next,
-    digits-long 16 (c .before .before
-        .before .before .before .args .k) (c .before .before .before .before .before .args .n),
-  ),
-)
+returns : tie.Need-returns Inv-loop μ-loop
+returns c = unfold hex in (spelt-end (c .loop-test .left) (c .before .loop .inv), refl)
 
 pub put-hex-spec : {M : Type 1} → statement M
-put-hex-spec = tie.close (tie.spec spell-requires same-length returns)
+put-hex-spec =
+    tie.close
+    (tie.spec
+    Inv-loop
+    μ-loop
+    loop-holds
+    sub-i
+    glyph-requires
+    add-buf
+    slice-write-buf
+    loop-less
+    loop-again
+    add-result
+    same-length
+    returns)

@@ -1,0 +1,19 @@
+-- The proof of trm_text::inner::numbers::figure.
+use Rattle.trm_text.proofs.Laws.Digits.{figure-is}
+use borrow.Author.Needs.{needs}
+use Rattle.trm_text.proofs.inner.numbers.figure.Statement.{statement}
+use Rattle.trm_text.proofs.inner.numbers.figure.Tie as tie
+use Rattle.trm_text.proofs.inner.numbers.figure.Reads as reads
+use Rattle.trm_text.proofs.inner.numbers.figure.Lts as lts
+
+add-result : tie.Need-add-result
+add-result c = search needs
+
+cast-result : tie.Need-cast-result
+cast-result c = search needs
+
+returns : tie.Need-returns
+returns c = figure-is _ (c .pre)
+
+pub figure-spec : {M : Type 1} → statement M
+figure-spec = tie.close (tie.spec add-result cast-result returns)
