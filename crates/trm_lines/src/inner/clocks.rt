@@ -54,6 +54,9 @@ fn gone_ahead(
         × (r .scalars .pc ≡ l .scalars .pc) × (r .scalars .running .phase ≢ 0) × (r .len ≡ l .len) ⌝ }
 {
     let c = l.scalars;
+    if c.running.phase == 5 {
+        return l; // its last clock is due
+    }
     let w = reading::word_at(program, c.pc);
     let lines = [line; 64];
     let m = least(l.left, 64);

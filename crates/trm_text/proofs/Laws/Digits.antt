@@ -5,9 +5,10 @@ use Prim.Native.Nat.{ℕ, zero, suc, _+_, _-_, _/_, _%_, _≤_, _<_}
 use mathlib.Core.Path.{_≡_, refl, sym, ap, _∙_, subst}
 use mathlib.Core.List.{List, [], _∷_, _++_, append-nil, append-assoc}
 use native.Mathlib.Omega.{arith}
+use borrow.Author.Tests.{lt-ltb, le-ltb}
 use lib.ListN.{length, set, take, drop, length-set, length-append, take-append-drop}
 use lib.Seq.{slice, slice-empty, slice-cons, getD-set-same, drop-set-lt, take-set-lt, take-set-le, take-take}
-use Rattle.trm_text.specs.Numbers.{glyph, digits}
+use Rattle.trm_text.specs.Numbers.{glyph, digits, places}
 use Rattle.trm_text.specs.Wrote.{Wrote}
 
 pub digits-long : (b k n : ℕ) → length (digits b k n) ≡ k
@@ -28,6 +29,97 @@ figure-is (suc (suc (suc (suc (suc (suc (suc zero))))))) h = refl
 figure-is (suc (suc (suc (suc (suc (suc (suc (suc zero)))))))) h = refl
 figure-is (suc (suc (suc (suc (suc (suc (suc (suc (suc zero))))))))) h = refl
 figure-is (suc (suc (suc (suc (suc (suc (suc (suc (suc (suc n)))))))))) h = absurd (omega arith)
+
+-- how many places a number between two powers of ten has
+pub places-1 : (n : ℕ) → n < 10 → 1 ≡ places n
+unfolding places
+places-1 n hi = rw (lt-ltb n 10 hi)
+
+pub places-2 : (n : ℕ) → 10 ≤ n → n < 100 → 2 ≡ places n
+unfolding places
+places-2 n lo hi = rw (le-ltb n 10 lo, lt-ltb n 100 hi)
+
+pub places-3 : (n : ℕ) → 100 ≤ n → n < 1000 → 3 ≡ places n
+unfolding places
+places-3 n lo hi = rw (le-ltb n 10 (omega arith), le-ltb n 100 lo, lt-ltb n 1000 hi)
+
+pub places-4 : (n : ℕ) → 1000 ≤ n → n < 10000 → 4 ≡ places n
+unfolding places
+places-4 n lo hi = rw (le-ltb n 10 (omega arith), le-ltb n 100 (omega arith), le-ltb n 1000 lo, lt-ltb n 10000 hi)
+
+pub places-5 : (n : ℕ) → 10000 ≤ n → n < 100000 → 5 ≡ places n
+unfolding places
+places-5 n lo hi = rw (
+  le-ltb n 10 (omega arith),
+  le-ltb n 100 (omega arith),
+  le-ltb n 1000 (omega arith),
+  le-ltb n 10000 lo,
+  lt-ltb n 100000 hi,
+)
+
+pub places-6 : (n : ℕ) → 100000 ≤ n → n < 1000000 → 6 ≡ places n
+unfolding places
+places-6 n lo hi = rw (
+  le-ltb n 10 (omega arith),
+  le-ltb n 100 (omega arith),
+  le-ltb n 1000 (omega arith),
+  le-ltb n 10000 (omega arith),
+  le-ltb n 100000 lo,
+  lt-ltb n 1000000 hi,
+)
+
+pub places-7 : (n : ℕ) → 1000000 ≤ n → n < 10000000 → 7 ≡ places n
+unfolding places
+places-7 n lo hi = rw (
+  le-ltb n 10 (omega arith),
+  le-ltb n 100 (omega arith),
+  le-ltb n 1000 (omega arith),
+  le-ltb n 10000 (omega arith),
+  le-ltb n 100000 (omega arith),
+  le-ltb n 1000000 lo,
+  lt-ltb n 10000000 hi,
+)
+
+pub places-8 : (n : ℕ) → 10000000 ≤ n → n < 100000000 → 8 ≡ places n
+unfolding places
+places-8 n lo hi = rw (
+  le-ltb n 10 (omega arith),
+  le-ltb n 100 (omega arith),
+  le-ltb n 1000 (omega arith),
+  le-ltb n 10000 (omega arith),
+  le-ltb n 100000 (omega arith),
+  le-ltb n 1000000 (omega arith),
+  le-ltb n 10000000 lo,
+  lt-ltb n 100000000 hi,
+)
+
+pub places-9 : (n : ℕ) → 100000000 ≤ n → n < 1000000000 → 9 ≡ places n
+unfolding places
+places-9 n lo hi = rw (
+  le-ltb n 10 (omega arith),
+  le-ltb n 100 (omega arith),
+  le-ltb n 1000 (omega arith),
+  le-ltb n 10000 (omega arith),
+  le-ltb n 100000 (omega arith),
+  le-ltb n 1000000 (omega arith),
+  le-ltb n 10000000 (omega arith),
+  le-ltb n 100000000 lo,
+  lt-ltb n 1000000000 hi,
+)
+
+pub places-10 : (n : ℕ) → 1000000000 ≤ n → 10 ≡ places n
+unfolding places
+places-10 n lo = rw (
+  le-ltb n 10 (omega arith),
+  le-ltb n 100 (omega arith),
+  le-ltb n 1000 (omega arith),
+  le-ltb n 10000 (omega arith),
+  le-ltb n 100000 (omega arith),
+  le-ltb n 1000000 (omega arith),
+  le-ltb n 10000000 (omega arith),
+  le-ltb n 100000000 (omega arith),
+  le-ltb n 1000000000 lo,
+)
 
 -- the buffer was `old`; i digits of `rest` are to come, before those that stand there
 pub record Spelt (old : List ℕ) (at k n base i rest : ℕ) (new : List ℕ) : Type 0 where

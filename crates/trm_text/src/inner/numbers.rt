@@ -75,32 +75,32 @@ fn spell_decimal(buf: &mut [u8], at: usize, k: usize, n: u64) -> usize
     at + k
 }
 
-// How many decimal digits a number has.
+// How many decimal digits a number has: one, as most counts of a word's clocks, or by halves.
 fn places(n: u64) -> usize
     ensures { λ r. ⌜ (r ≡ Numbers·places n) × (r ≤ 10) ⌝ }
 {
     if n < 10 {
         return 1;
     }
-    if n < 100 {
-        return 2;
-    }
-    if n < 1000 {
-        return 3;
-    }
     if n < 10000 {
+        if n < 100 {
+            return 2;
+        }
+        if n < 1000 {
+            return 3;
+        }
         return 4;
     }
-    if n < 100000 {
-        return 5;
-    }
     if n < 1000000 {
+        if n < 100000 {
+            return 5;
+        }
         return 6;
     }
-    if n < 10000000 {
-        return 7;
-    }
     if n < 100000000 {
+        if n < 10000000 {
+            return 7;
+        }
         return 8;
     }
     if n < 1000000000 {

@@ -4,10 +4,16 @@ use native.Mathlib.Omega.{arith}
 use mathlib.Core.List.{[]}
 use lib.ListN.{length, length-replicate}
 use Rattle.trm_ahead.specs.Reached.{point}
+use Rattle.trm_lines.proofs.Laws.Onward.{onward-none}
 use Rattle.trm_lines.proofs.Laws.Gone.{under-able, gone-below, onward-gone, lines-same}
 use borrow.Author.Needs.{needs}
 use Rattle.trm_lines.proofs.inner.clocks.gone_ahead.Statement.{statement}
 use Rattle.trm_lines.proofs.inner.clocks.gone_ahead.Tie as tie
+
+returns : tie.Need-returns
+returns c =
+    (λ b f. onward-none _ _ _ _ b (c .before .before .before .before .before .pre .0) f, refl, c .before .before .before .before
+    .before .pre .2, refl)
 
 word-at-requires : tie.Need-word-at-requires
 word-at-requires c κs = search needs
@@ -21,54 +27,57 @@ array-share-prefix-lines c = search needs
 slice-aggregate-flight-ahead : tie.Need-slice-aggregate-flight-ahead
 slice-aggregate-flight-ahead c =
     let m = c .before .before .before .least .ensures in
-    sym (ap length (lines-same _ (c .before .before .before .before .before .before .before .before .args .line)
-    (m .1)) ∙ length-replicate _ _)
+    sym (ap length (lines-same _ (c .before .before .before .before .before .before .before .before .before .before .args .line)
+        (m .1)) ∙ length-replicate _ _)
 
 flight-ahead-requires : tie.Need-flight-ahead-requires
 flight-ahead-requires c κs =
-    let pre = c .before .before .before .before .before .before .before .before .pre in
+    let pre = c .before .before .before .before .before .before .before .before .before .before .pre in
     let m = c .before .before .before .least .ensures in (
-      under-able _ _ (c .before .before .before .before .before .before .before .before .args .l) _ _ _ [] (pre .0) _ (m .0) (m .1) _
-          (lines-same _ _ (m .1)) _ (c .before .before .before .before .word-at .ensures),
+      under-able _ _ (c .before .before .before .before .before .before .before .before .before .before .args .l) _ _ _ []
+          (pre .0) _ (m .0) (m .1) _ (lines-same _ _ (m .1)) _ (c .before .before .before .before .word-at .ensures),
       pre .3,
     )
 
-sub-t24 : tie.Need-sub-t24
-sub-t24 c =
-    let pre = c .before .before .before .before .before .before .before .before .before .before .before .before .before .before .pre in
+sub-t25 : tie.Need-sub-t25
+sub-t25 c =
+    let pre = c .before .before .before .before .before .before .before .before .before .before .before .before .before .before
+        .before .before .pre in
     let m = c .before .before .before .before .before .before .before .before .before .least .ensures in
     let q = c .before .before .before .before .before .flight-ahead .ensures in
     let below = gone-below _ _ (c .before .before .before .before .before .before .before .before .before .before .before .before
-    .before .before .args .l) _ _ _ [] (pre .0) _ (m .0) (m .1) _ (lines-same _ _ (m .1)) (pre .1) (pre .2) _
+        .before .before .before .before .args .l) _ _ _ [] (pre .0) _ (m .0) (m .1) _ (lines-same _ _ (m .1)) (pre .1) (pre .2) _
     (c .before .before .before .before .before .before .before .before .before .before .word-at .ensures) (point
-    (c .before .before .before .before .before .flight-ahead .result) _ _ _) (q .0) (q .3) in
+        (c .before .before .before .before .before .flight-ahead .result) _ _ _) (q .0) (q .3) in
     omega (arith, below, m .0)
 
-add-t26 : tie.Need-add-t26
-add-t26 c =
+add-t27 : tie.Need-add-t27
+add-t27 c =
     let pre = c .before .before .before .before .before .before .before .before .before .before .before .before .before .before
-    .before .pre in
+        .before .before .before .pre in
     let m = c .before .before .before .before .before .before .before .before .before .before .least .ensures in
     let q = c .before .before .before .before .before .before .flight-ahead .ensures in
     let below = gone-below _ _ (c .before .before .before .before .before .before .before .before .before .before .before .before
-    .before .before .before .args .l) _ _ _ [] (pre .0) _ (m .0) (m .1) _ (lines-same _ _ (m .1)) (pre .1) (pre .2) _
+        .before .before .before .before .before .args .l) _ _ _ [] (pre .0) _ (m .0) (m .1) _ (lines-same _ _ (m .1)) (pre .1)
+        (pre .2) _
     (c .before .before .before .before .before .before .before .before .before .before .before .word-at .ensures) (point
-    (c .before .before .before .before .before .before .flight-ahead .result) _ _ _) (q .0) (q .3) in
+        (c .before .before .before .before .before .before .flight-ahead .result) _ _ _) (q .0) (q .3) in
     omega (arith, below, m .1, pre .0 .few, pre .0 .room)
 
 same-length : tie.Need-same-length
 same-length c = search needs
 
-returns : tie.Need-returns
-returns c =
+returns-2 : tie.Need-returns-2
+returns-2 c =
     let pre = c .before .before .before .before .before .before .before .before .before .before .before .before .before .before
-    .before .pre in
+        .before .before .before .pre in
     let m = c .before .before .before .before .before .before .before .before .before .before .least .ensures in
     let q = c .before .before .before .before .before .before .flight-ahead .ensures in (
       λ b f. onward-gone _ _ (c .before .before .before .before .before .before .before .before .before .before .before .before
-          .before .before .before .args .l) _ _ _ b (pre .0) _ (m .0) (m .1) _ (lines-same _ _ (m .1)) (pre .1) (pre .2) _
+          .before .before .before .before .before .args .l) _ _ _ b (pre .0) _ (m .0) (m .1) _ (lines-same _ _ (m .1)) (pre .1)
+          (pre .2) _
           (c .before .before .before .before .before .before .before .before .before .before .before .word-at .ensures) (point
-          (c .before .before .before .before .before .before .flight-ahead .result) _ _ _) (q .0) (q .3) f,
+              (c .before .before .before .before .before .before .flight-ahead .result) _ _ _) (q .0) (q .3) f,
       q .1,
       λ z. pre .2 (sym (q .2) ∙ z),
       refl,
@@ -78,12 +87,13 @@ pub gone-ahead-spec : {M : Type 1} → statement M
 gone-ahead-spec =
     tie.close
     (tie.spec
+    returns
     word-at-requires
     least-requires
     array-share-prefix-lines
     slice-aggregate-flight-ahead
     flight-ahead-requires
-    sub-t24
-    add-t26
+    sub-t25
+    add-t27
     same-length
-    returns)
+    returns-2)

@@ -3,8 +3,6 @@ use Rattle.trm_text.proofs.Laws.Digits.{figure-is}
 use borrow.Author.Needs.{needs}
 use Rattle.trm_text.proofs.inner.numbers.figure.Statement.{statement}
 use Rattle.trm_text.proofs.inner.numbers.figure.Tie as tie
-use Rattle.trm_text.proofs.inner.numbers.figure.Reads as reads
-use Rattle.trm_text.proofs.inner.numbers.figure.Lts as lts
 
 add-result : tie.Need-add-result
 add-result c = search needs

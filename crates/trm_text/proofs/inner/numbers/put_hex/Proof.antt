@@ -6,9 +6,6 @@ use Rattle.trm_text.proofs.Laws.Digits.{Spelt, spelt-none, spelt-more, 
 use borrow.Author.Needs.{needs}
 use Rattle.trm_text.proofs.inner.numbers.put_hex.Statement.{statement}
 use Rattle.trm_text.proofs.inner.numbers.put_hex.Tie as tie
-use Rattle.trm_text.proofs.inner.numbers.put_hex.Reads as reads
-use Rattle.trm_text.proofs.inner.numbers.put_hex.Lts as lts
-use Rattle.trm_text.proofs.inner.numbers.glyph.Reads as glyph-reads
 
 abbrev Inv-loop : tie.InvT-loop
 Inv-loop buf₀ at k n i₀ rest₀ buf i rest = Spelt buf₀ at k n 16 i rest buf
@@ -29,7 +26,8 @@ add-buf : tie.Need-add-buf Inv-loop μ-loop
 add-buf c = search needs
 
 slice-write-buf : tie.Need-slice-write-buf Inv-loop μ-loop
-slice-write-buf c = omega (arith, c .before .before .loop .inv .below, c .before .before .loop .inv .room, c .before .before .loop .inv .long)
+slice-write-buf c =
+    omega (arith, c .before .before .loop .inv .below, c .before .before .loop .inv .room, c .before .before .loop .inv .long)
 
 loop-less : tie.Need-loop-less Inv-loop μ-loop
 loop-less c = omega arith

@@ -6,9 +6,6 @@ use Rattle.trm_text.proofs.Laws.Digits.{Spelt, spelt-none, spelt-more, 
 use borrow.Author.Needs.{needs}
 use Rattle.trm_text.proofs.inner.numbers.spell_decimal.Statement.{statement}
 use Rattle.trm_text.proofs.inner.numbers.spell_decimal.Tie as tie
-use Rattle.trm_text.proofs.inner.numbers.spell_decimal.Reads as reads
-use Rattle.trm_text.proofs.inner.numbers.spell_decimal.Lts as lts
-use Rattle.trm_text.proofs.inner.numbers.figure.Reads as figure-reads
 
 abbrev Inv-loop : tie.InvT-loop
 Inv-loop buf₀ at k n i₀ rest₀ buf i rest = Spelt buf₀ at k n 10 i rest buf
@@ -29,7 +26,8 @@ add-buf : tie.Need-add-buf Inv-loop μ-loop
 add-buf c = search needs
 
 slice-write-buf : tie.Need-slice-write-buf Inv-loop μ-loop
-slice-write-buf c = omega (arith, c .before .before .loop .inv .below, c .before .before .loop .inv .room, c .before .before .loop .inv .long)
+slice-write-buf c =
+    omega (arith, c .before .before .loop .inv .below, c .before .before .loop .inv .room, c .before .before .loop .inv .long)
 
 sub-i-2 : tie.Need-sub-i-2 Inv-loop μ-loop
 sub-i-2 c = omega (arith, c .before .loop-test .taken)
@@ -41,13 +39,18 @@ add-buf-2 : tie.Need-add-buf-2 Inv-loop μ-loop
 add-buf-2 c = search needs
 
 slice-write-buf-2 : tie.Need-slice-write-buf-2 Inv-loop μ-loop
-slice-write-buf-2 c = rw (length-set (c .before .before .before .loop .buf) (c .before .before .before .before .before .args .at + (c .before .before .before .loop .i - 1)) (c .before .figure .result)) (omega (arith, c .before .before .before .loop .inv .below, c .before .before .before .loop .inv .room, c .before .before .before .loop .inv .long))
+slice-write-buf-2 c =
+    rw (length-set (c .before .before .before .loop .buf) (c .before .before .before .before .before .args .at + (c .before .before
+    .before .loop .i - 1)) (c .before .figure .result)) (omega (arith, c .before .before .before .loop .inv .below, c .before
+    .before .before .loop .inv .room, c .before .before .before .loop .inv .long))
 
 loop-less : tie.Need-loop-less Inv-loop μ-loop
 loop-less c = omega (arith, c .before .before .loop-test .taken)
 
 loop-again : tie.Need-loop-again Inv-loop μ-loop
-loop-again c = rw (c .figure2 .ensures, c .before .figure .ensures) (spelt-more _ (omega (arith, c .before .before .loop-test .taken)) (spelt-more _ (omega (arith, c .before .before .loop-test .taken)) (c .before .before .before .loop .inv)))
+loop-again c =
+    rw (c .figure2 .ensures, c .before .figure .ensures) (spelt-more _ (omega (arith, c .before .before .loop-test .taken))
+    (spelt-more _ (omega (arith, c .before .before .loop-test .taken)) (c .before .before .before .loop .inv)))
 
 add-result : tie.Need-add-result Inv-loop μ-loop
 add-result c = search needs
@@ -68,7 +71,9 @@ add-buf-3 : tie.Need-add-buf-3 Inv-loop μ-loop
 add-buf-3 c = search needs
 
 slice-write-buf-3 : tie.Need-slice-write-buf-3 Inv-loop μ-loop
-slice-write-buf-3 c = omega (arith, c .before .before .before .loop .inv .below, c .before .before .before .loop .inv .room, c .before .before .before .loop .inv .long)
+slice-write-buf-3 c =
+    omega (arith, c .before .before .before .loop .inv .below, c .before .before .before .loop .inv .room, c .before .before .before
+    .loop .inv .long)
 
 add-result-2 : tie.Need-add-result-2 Inv-loop μ-loop
 add-result-2 c = search needs
@@ -77,7 +82,9 @@ same-length-2 : tie.Need-same-length-2 Inv-loop μ-loop
 same-length-2 c = search needs
 
 returns-2 : tie.Need-returns-2 Inv-loop μ-loop
-returns-2 c = rw (c .figure3 .ensures) (spelt-end (omega (arith, c .before .before .loop-test .left)) (spelt-more _ (omega (arith, c .before .if1 .left)) (c .before .before .before .loop .inv)))
+returns-2 c =
+    rw (c .figure3 .ensures) (spelt-end (omega (arith, c .before .before .loop-test .left)) (spelt-more _ (omega (arith, c .before
+    .if1 .left)) (c .before .before .before .loop .inv)))
 
 pub spell-decimal-spec : {M : Type 1} → statement M
 spell-decimal-spec =
