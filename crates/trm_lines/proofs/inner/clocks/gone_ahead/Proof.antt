@@ -11,9 +11,13 @@ use Rattle.trm_lines.proofs.inner.clocks.gone_ahead.Statement.{statemen
 use Rattle.trm_lines.proofs.inner.clocks.gone_ahead.Tie as tie
 
 returns : tie.Need-returns
-returns c =
-    (λ b f. onward-none _ _ _ _ b (c .before .before .before .before .before .pre .0) f, refl, c .before .before .before .before
-    .before .pre .2, refl)
+returns c = (
+  λ b f. onward-none _ _ _ _ b (c .before .before .before .before .before .pre .0) f,
+  refl,
+  c .before .before .before .before
+      .before .pre .2,
+  refl,
+)
 
 word-at-requires : tie.Need-word-at-requires
 word-at-requires c κs = search needs
@@ -28,7 +32,7 @@ slice-aggregate-flight-ahead : tie.Need-slice-aggregate-flight-ahead
 slice-aggregate-flight-ahead c =
     let m = c .before .before .before .least .ensures in
     sym (ap length (lines-same _ (c .before .before .before .before .before .before .before .before .before .before .args .line)
-        (m .1)) ∙ length-replicate _ _)
+    (m .1)) ∙ length-replicate _ _)
 
 flight-ahead-requires : tie.Need-flight-ahead-requires
 flight-ahead-requires c κs =
@@ -42,26 +46,26 @@ flight-ahead-requires c κs =
 sub-t25 : tie.Need-sub-t25
 sub-t25 c =
     let pre = c .before .before .before .before .before .before .before .before .before .before .before .before .before .before
-        .before .before .pre in
+    .before .before .pre in
     let m = c .before .before .before .before .before .before .before .before .before .least .ensures in
     let q = c .before .before .before .before .before .flight-ahead .ensures in
     let below = gone-below _ _ (c .before .before .before .before .before .before .before .before .before .before .before .before
-        .before .before .before .before .args .l) _ _ _ [] (pre .0) _ (m .0) (m .1) _ (lines-same _ _ (m .1)) (pre .1) (pre .2) _
+    .before .before .before .before .args .l) _ _ _ [] (pre .0) _ (m .0) (m .1) _ (lines-same _ _ (m .1)) (pre .1) (pre .2) _
     (c .before .before .before .before .before .before .before .before .before .before .word-at .ensures) (point
-        (c .before .before .before .before .before .flight-ahead .result) _ _ _) (q .0) (q .3) in
+    (c .before .before .before .before .before .flight-ahead .result) _ _ _) (q .0) (q .3) in
     omega (arith, below, m .0)
 
 add-t27 : tie.Need-add-t27
 add-t27 c =
     let pre = c .before .before .before .before .before .before .before .before .before .before .before .before .before .before
-        .before .before .before .pre in
+    .before .before .before .pre in
     let m = c .before .before .before .before .before .before .before .before .before .before .least .ensures in
     let q = c .before .before .before .before .before .before .flight-ahead .ensures in
     let below = gone-below _ _ (c .before .before .before .before .before .before .before .before .before .before .before .before
-        .before .before .before .before .before .args .l) _ _ _ [] (pre .0) _ (m .0) (m .1) _ (lines-same _ _ (m .1)) (pre .1)
-        (pre .2) _
+    .before .before .before .before .before .args .l) _ _ _ [] (pre .0) _ (m .0) (m .1) _ (lines-same _ _ (m .1)) (pre .1)
+    (pre .2) _
     (c .before .before .before .before .before .before .before .before .before .before .before .word-at .ensures) (point
-        (c .before .before .before .before .before .before .flight-ahead .result) _ _ _) (q .0) (q .3) in
+    (c .before .before .before .before .before .before .flight-ahead .result) _ _ _) (q .0) (q .3) in
     omega (arith, below, m .1, pre .0 .few, pre .0 .room)
 
 same-length : tie.Need-same-length
@@ -70,14 +74,14 @@ same-length c = search needs
 returns-2 : tie.Need-returns-2
 returns-2 c =
     let pre = c .before .before .before .before .before .before .before .before .before .before .before .before .before .before
-        .before .before .before .pre in
+    .before .before .before .pre in
     let m = c .before .before .before .before .before .before .before .before .before .before .least .ensures in
     let q = c .before .before .before .before .before .before .flight-ahead .ensures in (
       λ b f. onward-gone _ _ (c .before .before .before .before .before .before .before .before .before .before .before .before
           .before .before .before .before .before .args .l) _ _ _ b (pre .0) _ (m .0) (m .1) _ (lines-same _ _ (m .1)) (pre .1)
           (pre .2) _
           (c .before .before .before .before .before .before .before .before .before .before .before .word-at .ensures) (point
-              (c .before .before .before .before .before .before .flight-ahead .result) _ _ _) (q .0) (q .3) f,
+          (c .before .before .before .before .before .before .flight-ahead .result) _ _ _) (q .0) (q .3) f,
       q .1,
       λ z. pre .2 (sym (q .2) ∙ z),
       refl,

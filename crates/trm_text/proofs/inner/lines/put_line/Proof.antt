@@ -178,7 +178,7 @@ returns c =
     let c30 = c20 .before .before .before .before .before .before .before .before .before .before in (
       wrote-then (wrote-then (wrote-then (wrote-then (wrote-then (wrote-then (wrote-then (c30 .put-decimal .ensures .0) (c20 .before
           .before .before .before .before .before .put-byte .ensures .0)) (c20 .before .before .put-hex .ensures .0))
-              (c10 .before .before
+          (c10 .before .before
           .before .before .before .before .before .before .put-byte2 .ensures .0)) (c10 .before .before .before .before .put-shown
           .ensures .0)) (c10 .put-byte3 .ensures .0)) (c .before .before .before .before .before .before .put-decimal2 .ensures .0)) (c
           .before .before .put-byte4 .ensures .0),

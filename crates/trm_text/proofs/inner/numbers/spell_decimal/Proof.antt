@@ -41,8 +41,13 @@ add-buf-2 c = search needs
 slice-write-buf-2 : tie.Need-slice-write-buf-2 Inv-loop μ-loop
 slice-write-buf-2 c =
     rw (length-set (c .before .before .before .loop .buf) (c .before .before .before .before .before .args .at + (c .before .before
-    .before .loop .i - 1)) (c .before .figure .result)) (omega (arith, c .before .before .before .loop .inv .below, c .before
-    .before .before .loop .inv .room, c .before .before .before .loop .inv .long))
+    .before .loop .i - 1)) (c .before .figure .result)) (omega (
+      arith,
+      c .before .before .before .loop .inv .below,
+      c .before
+          .before .before .loop .inv .room,
+      c .before .before .before .loop .inv .long,
+    ))
 
 loop-less : tie.Need-loop-less Inv-loop μ-loop
 loop-less c = omega (arith, c .before .before .loop-test .taken)
@@ -72,8 +77,13 @@ add-buf-3 c = search needs
 
 slice-write-buf-3 : tie.Need-slice-write-buf-3 Inv-loop μ-loop
 slice-write-buf-3 c =
-    omega (arith, c .before .before .before .loop .inv .below, c .before .before .before .loop .inv .room, c .before .before .before
-    .loop .inv .long)
+    omega (
+      arith,
+      c .before .before .before .loop .inv .below,
+      c .before .before .before .loop .inv .room,
+      c .before .before .before
+          .loop .inv .long,
+    )
 
 add-result-2 : tie.Need-add-result-2 Inv-loop μ-loop
 add-result-2 c = search needs
@@ -83,8 +93,11 @@ same-length-2 c = search needs
 
 returns-2 : tie.Need-returns-2 Inv-loop μ-loop
 returns-2 c =
-    rw (c .figure3 .ensures) (spelt-end (omega (arith, c .before .before .loop-test .left)) (spelt-more _ (omega (arith, c .before
-    .if1 .left)) (c .before .before .before .loop .inv)))
+    rw (c .figure3 .ensures) (spelt-end (omega (arith, c .before .before .loop-test .left)) (spelt-more _ (omega (
+      arith,
+      c .before
+          .if1 .left,
+    )) (c .before .before .before .loop .inv)))
 
 pub spell-decimal-spec : {M : Type 1} → statement M
 spell-decimal-spec =
