@@ -20,6 +20,7 @@ use Rattle.trm_calls.specs.Outcome.{pins, resetGives, clockGives, runGives}
 use Rattle.trm_inspect.specs.Observed.{lookGives, copyGives}
 use Rattle.trm.specs.declared.answer.ResetAnswer.{ResetAnswer}
 use Rattle.trm.specs.declared.answer.ClockAnswer.{ClockAnswer}
+use Rattle.trm.specs.declared.answer.LentAnswer.{LentAnswer}
 use Rattle.trm.specs.declared.answer.RunAnswer.{RunAnswer}
 use Rattle.trm.specs.declared.answer.LookAnswer.{LookAnswer}
 use Rattle.trm.specs.declared.answer.WatchAnswer.{WatchAnswer}
@@ -27,6 +28,11 @@ use Rattle.trm.specs.declared.answer.WatchAnswer.{WatchAnswer}
 -- what is returned and left, put together
 abbrev pub clocked : ClockAnswer → List ℕ → After Lent Answer
 clocked r s = record { state = lent (r .machine) s; out = record { byte = r .byte; word = r .word; done = r .finished } }
+
+-- the answer of a clock on a lent record, with the record as it is left: what the clock by value answers
+abbrev pub withRecord : Machine → LentAnswer → ClockAnswer
+withRecord m r =
+    record { machine = m; number = r .number; byte = r .byte; word = r .word; finished = r .finished }
 
 abbrev pub ran : RunAnswer → List ℕ → List ℕ → List ℕ → Ran
 ran r s bytes words =

@@ -18,6 +18,15 @@ pub struct ClockAnswer {
     pub finished: u64,
 }
 
+// The same without the record, for a caller who lends it.
+#[repr(C)]
+pub struct LentAnswer {
+    pub number: u32,
+    pub byte: u8,
+    pub word: u32,
+    pub finished: u64,
+}
+
 #[repr(C)]
 pub struct RunAnswer {
     pub machine: Machine,

@@ -3,4 +3,5 @@
 // `answer`: what the calls return; `number`: a refusal's number; `calls`: the exported functions.
 pub mod answer;
 pub mod calls;
+pub mod lent;
 pub mod number;

@@ -1,0 +1,29 @@
+// The second entry: the record itself is lent for one clock.
+// Paper: "Later a second entry lends the record itself for one clock, with the same outcome".
+// It calls the clock that takes the record by value and stores what comes back; its proof is by hand.
+ghost use Rattle.trm.specs.Numbered.{ClockNumbered, withRecord};
+use crate::answer::ClockAnswer;
+use crate::answer::LentAnswer;
+use trm_engine::machine::Machine;
+
+// One clock, in place.
+#[no_mangle]
+pub extern "C" fn trm_clock(
+    m: &mut Machine,
+    program: &[u32],
+    store: &mut [u32],
+    line: u8,
+    input: u32,
+) -> LentAnswer
+    ensures { λ r. ⌜ ClockNumbered (now (m .entry)) (now (program .entry)) (now (store .entry)) line input
+        (withRecord (now (m .exit)) r) (now (store .exit)) ⌝ }
+{
+    let r = crate::calls::trm_clock_value(*m, program, store, line, input);
+    *m = r.machine;
+    LentAnswer {
+        number: r.number,
+        byte: r.byte,
+        word: r.word,
+        finished: r.finished,
+    }
+}
