@@ -87,6 +87,29 @@ fn clocks(turns: usize, load: &Load) {
     Best::of(turns, library, simulator).print(&format!("clock, {}", load.name), "call");
 }
 
+fn lent_clocks(turns: usize, load: &Load) {
+    let library = || {
+        let mut store = vec![0; WORDS];
+        let mut machine = library::reset(&store).machine;
+        timed(CALLS, || {
+            for _ in 0..CALLS {
+                black_box(library::clock_lent(&mut machine, &load.program, &mut store, load.line, 1));
+            }
+            assert_eq!(machine.clocks as usize, CALLS);
+        })
+    };
+    let simulator = || {
+        let mut store = vec![0; WORDS];
+        let mut record = simulator::reset(&store).unwrap();
+        timed(CALLS, || {
+            for _ in 0..CALLS {
+                black_box(simulator::clock(&mut record, &load.program, &mut store, load.line, 1).unwrap());
+            }
+        })
+    };
+    Best::of(turns, library, simulator).print(&format!("lent clock, {}", load.name), "call");
+}
+
 fn looks(turns: usize) {
     let (program, store) = (vec![0; 12], vec![7; WORDS]);
     let machine = library::reset(&store).machine;
@@ -138,6 +161,9 @@ fn main() {
     }
     for load in loads() {
         clocks(turns, &load);
+    }
+    for load in loads() {
+        lent_clocks(turns, &load);
     }
     looks(turns);
     early_exit(turns);

@@ -6,14 +6,14 @@ use trm_refusals::refusal::Refusal;
 
 // A reset: the record to begin with. Refused, it is a record that every call refuses.
 pub struct Reset {
-    pub refused: Refusal,
     pub machine: Machine,
+    pub refused: Refusal,
 }
 
 // A clock: the byte and the word that a run would write for it; 1 if it finished an instruction.
 pub struct Clock {
-    pub refused: Refusal,
     pub machine: Machine,
+    pub refused: Refusal,
     pub byte: u8,
     pub word: u32,
     pub finished: u64,
@@ -21,8 +21,8 @@ pub struct Clock {
 
 // A run: the clocks used and the instructions finished.
 pub struct Run {
-    pub refused: Refusal,
     pub machine: Machine,
+    pub refused: Refusal,
     pub used: u64,
     pub finished: u64,
 }

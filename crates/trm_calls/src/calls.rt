@@ -24,14 +24,14 @@ pub fn reset(store: &[u32]) -> Reset
     if !record::accepted(refused) {
         let none = start::zero_record(&store[0..0]);
         return Reset {
-            refused: refused,
             machine: none,
+            refused: refused,
         };
     }
     let machine = start::zero_record(store);
     Reset {
-        refused: refused,
         machine: machine,
+        refused: refused,
     }
 }
 
@@ -65,8 +65,8 @@ pub fn clock(m: Machine, program: &[u32], store: &mut [u32], line: u8, input: u3
     let refused = clock_refused(m, program, store, line);
     if !record::accepted(refused) {
         return Clock {
-            refused: refused,
             machine: m,
+            refused: refused,
             byte: 0,
             word: 0,
             finished: 0,
@@ -75,8 +75,8 @@ pub fn clock(m: Machine, program: &[u32], store: &mut [u32], line: u8, input: u3
     let t = m.clock(program, store, line, input);
     let machine = t.machine;
     Clock {
-        refused: refused,
         machine: machine, // as the clock leaves it
+        refused: refused,
         byte: t.byte,
         word: t.word,
         finished: t.done,
@@ -134,8 +134,8 @@ pub fn run(
     let refused = run_refused(m, program, store, lines, inputs, bytes, words);
     if !record::accepted(refused) {
         return Run {
-            refused: refused,
             machine: m,
+            refused: refused,
             used: 0,
             finished: 0,
         };
@@ -143,8 +143,8 @@ pub fn run(
     let f = m.run(program, store, lines, inputs, bytes, words);
     let machine = f.machine;
     Run {
-        refused: refused,
         machine: machine,
+        refused: refused,
         used: lines.len() as u64,
         finished: f.finished,
     }

@@ -49,6 +49,15 @@ pub struct ClockAnswer {
 
 #[repr(C)]
 #[derive(Clone, Copy)]
+pub struct LentAnswer {
+    pub number: u32,
+    pub byte: u8,
+    pub word: u32,
+    pub finished: u64,
+}
+
+#[repr(C)]
+#[derive(Clone, Copy)]
 pub struct RunAnswer {
     pub machine: Machine,
     pub number: u32,
@@ -84,6 +93,15 @@ extern "C" {
         line: u8,
         input: u32,
     ) -> ClockAnswer;
+    fn trm_clock(
+        m: *mut Machine,
+        program: *const u32,
+        np: usize,
+        store: *mut u32,
+        n: usize,
+        line: u8,
+        input: u32,
+    ) -> LentAnswer;
     fn trm_run(
         m: Machine,
         program: *const u32,
@@ -119,6 +137,11 @@ pub fn reset(store: &[u32]) -> ResetAnswer {
 pub fn clock(m: &Machine, program: &[u32], store: &mut [u32], line: u8, input: u32) -> ClockAnswer {
     let (words, lent) = (program.len(), store.len());
     unsafe { trm_clock_value(*m, program.as_ptr(), words, store.as_mut_ptr(), lent, line, input) }
+}
+
+pub fn clock_lent(m: &mut Machine, program: &[u32], store: &mut [u32], line: u8, input: u32) -> LentAnswer {
+    let (words, lent) = (program.len(), store.len());
+    unsafe { trm_clock(m, program.as_ptr(), words, store.as_mut_ptr(), lent, line, input) }
 }
 
 pub fn run(
