@@ -2,3 +2,6 @@
 -- Paper: "Where calls are turned down".
 -- Assumes nothing.
 pub mod Numbered
+pub mod Fields
+pub mod Words
+pub mod Layout

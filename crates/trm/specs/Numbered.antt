@@ -18,12 +18,14 @@ use Rattle.trm_engine.specs.declared.machine.Machine.{Machine}
 use Rattle.trm_engine.specs.Machine.{recordOf, lent}
 use Rattle.trm_calls.specs.Outcome.{pins, resetGives, clockGives, runGives}
 use Rattle.trm_inspect.specs.Observed.{lookGives, copyGives}
+use Rattle.trm_image.specs.Refused.{imageFault}
 use Rattle.trm.specs.declared.answer.ResetAnswer.{ResetAnswer}
 use Rattle.trm.specs.declared.answer.ClockAnswer.{ClockAnswer}
 use Rattle.trm.specs.declared.answer.LentAnswer.{LentAnswer}
 use Rattle.trm.specs.declared.answer.RunAnswer.{RunAnswer}
 use Rattle.trm.specs.declared.answer.LookAnswer.{LookAnswer}
 use Rattle.trm.specs.declared.answer.WatchAnswer.{WatchAnswer}
+use Rattle.trm.specs.declared.image.ImageAnswer.{ImageAnswer}
 
 -- what is returned and left, put together
 abbrev pub clocked : ClockAnswer → List ℕ → After Lent Answer
@@ -69,3 +71,8 @@ pub record WatchNumbered (bytes : List ℕ) (device : ℕ) (r : WatchAnswer) : T
   pub answer : r ≡ valueOf (watchRefusal device) sighting
   pub accepted : watchRefusal device ≡ 0 → SightingHolds bytes device sighting
   pub refused : watchRefusal device ≡ 9 → sighting ≡ Nowhere
+
+-- n is the store's length in words
+pub record ImageNumbered (n : ℕ) (image : List ℕ) (r : ImageAnswer) : Type 0 where
+  pub number : r .number ≡ imageFault n image .number
+  pub at : r .at ≡ imageFault n image .at

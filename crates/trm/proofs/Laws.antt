@@ -1,0 +1,65 @@
+-- Laws of instructions as plain numbers: the instruction of a form, and what decode and encode give.
+-- By the form's number in the list of forms, and by the one test of decode.
+-- Assumes nothing.
+use mathlib.Core.Path.{_≡_, sym, ap, _∙_}
+use mathlib.Core.Bool.{Bool, true, false, cond, _&&_}
+use Prim.Native.Nat.{ℕ, _≤_}
+use lib.Dec.{ltb}
+use lib.ListN.{getD, List·getD-eq-default}
+use Rattle.trm_codec.specs.declared.instruction.Instruction.{Instruction}
+use Rattle.trm_codec.specs.declared.instruction.Instruction.the-variants.{Call}
+use Rattle.trm_codec.specs.declared.instruction.Decoded.{Decoded}
+use Rattle.trm_codec.specs.declared.instruction.Decoded.the-variants as D
+use Rattle.trm_codec.specs.Decode.{instructionOf, decodeOf}
+use Rattle.trm_codec.specs.Encode.{fits, placed}
+use Rattle.trm_codec.specs.Refusals.{wordRefusal, instructionRefusal}
+use Rattle.trm.specs.declared.fields.Fields.{Fields}
+use Rattle.trm.specs.Fields.{plainFields, fieldsOf, forms, instructionAt, sameFields, fieldsFit}
+use Rattle.trm.specs.Words.{fieldsGiven, fieldsRefusal, wordGiven, DecodeNumbered, EncodeNumbered}
+
+-- the instruction of a form that is known
+pub at-form : (f : Fields) {k : ℕ} → f .form ≡ k → getD (forms f) k (Call (f .value)) ≡ instructionAt f
+at-form f e = sym (ap (λ k. getD (forms f) k (Call (f .value))) e)
+
+-- past the list it is a call
+pub past-forms : (f : Fields) → 10 ≤ f .form → Call (f .value) ≡ instructionAt f
+past-forms f h = sym (List·getD-eq-default (forms f) (Call (f .value)) h)
+
+-- the instruction of an answer, or another where there is none
+held : Instruction → Decoded → Instruction
+held j (D.Instruction i) = i
+held j D.Refused = j
+
+decoded-is : (w : ℕ) (i : Instruction) → decodeOf w ≡ D.Instruction i → instructionOf w ≡ i
+unfolding decodeOf held
+decoded-is w i e = go (ltb 0x3FFFF w) e
+  where
+    go : (t : Bool) → cond t D.Refused (D.Instruction (instructionOf w)) ≡ D.Instruction i → instructionOf w ≡ i
+    go true h = ap (held (instructionOf w)) h
+    go false h = ap (held (instructionOf w)) h
+
+pub decoded : (w : ℕ) (i : Instruction) → wordRefusal w ≡ 0 → decodeOf w ≡ D.Instruction i
+    → DecodeNumbered w (record { fields = fieldsOf i; number = 0 })
+unfolding fieldsGiven
+decoded w i z e = record { number = sym z; fields = rw (z, decoded-is w i e) }
+
+pub not-decoded : (w : ℕ) → wordRefusal w ≡ 3 → DecodeNumbered w (record { fields = plainFields 0 0 0 0; number = 3 })
+unfolding fieldsGiven
+not-decoded w z = record { number = sym z; fields = rw z }
+
+-- i is the instruction of the fields
+module _ (f : Fields) (i : Instruction) (at : i ≡ instructionAt f) where
+  refusal-at : cond (sameFields f (fieldsOf i) && fits i) 0 10 ≡ fieldsRefusal f
+  unfolding fieldsRefusal fieldsFit
+  refusal-at = ap (λ (j : Instruction). cond (sameFields f (fieldsOf j) && fits j) 0 10) at
+
+  word-at : cond (sameFields f (fieldsOf i) && fits i) (placed i) 0 ≡ wordGiven f
+  unfolding wordGiven fieldsFit
+  word-at = ap (λ (j : Instruction). cond (sameFields f (fieldsOf j) && fits j) (placed j) 0) at
+
+  pub not-same : sameFields f (fieldsOf i) ≡ false → EncodeNumbered f (record { number = 10; word = 0 })
+  not-same e = record { number = ap (λ b. cond (b && fits i) 0 10) (sym e) ∙ refusal-at; word = ap (λ b. cond (b && fits i) (placed i) 0) (sym e) ∙ word-at }
+
+  pub same : (n w : ℕ) → sameFields f (fieldsOf i) ≡ true → n ≡ instructionRefusal i → w ≡ cond (fits i) (placed i) 0
+      → EncodeNumbered f (record { number = n; word = w })
+  same n w e number word = record { number = number ∙ ap (λ b. cond (b && fits i) 0 10) (sym e) ∙ refusal-at; word = word ∙ ap (λ b. cond (b && fits i) (placed i) 0) (sym e) ∙ word-at }

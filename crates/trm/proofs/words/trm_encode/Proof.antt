@@ -1,0 +1,72 @@
+-- The proof of trm::words::trm_encode.
+use Rattle.trm.proofs.Laws.{same, not-same}
+use borrow.Author.Tests.{not-true, not-false}
+use mathlib.Core.Path.{sym, ap, _∙_}
+use Rattle.trm_codec.specs.Refusals.{encodeNumber, encodeValue}
+use borrow.Author.Needs.{needs}
+use Rattle.trm.proofs.words.trm_encode.Statement.{statement}
+use Rattle.trm.proofs.words.trm_encode.Tie as tie
+
+instruction-at-requires : tie.Need-instruction-at-requires
+instruction-at-requires c κs = search needs
+
+fields-of-requires : tie.Need-fields-of-requires
+fields-of-requires c κs = search needs
+
+same-fields-requires : tie.Need-same-fields-requires
+same-fields-requires c κs = search needs
+
+returns : tie.Need-returns
+returns c =
+    not-same _ _ (c .before .before .before .instruction-at .ensures) (rw (
+      ← c .before .before .fields-of .ensures,
+      ← c .before
+          .same-fields .ensures,
+    ) (not-true (c .before .same-fields .result) (c .if1 .taken)))
+
+encode-requires : tie.Need-encode-requires
+encode-requires c κs = search needs
+
+enum-known-r : tie.Need-enum-known-r
+enum-known-r c = search needs
+
+enum-told : tie.Need-enum-told
+enum-told c = search needs
+
+returns-2 : tie.Need-returns-2
+returns-2 c =
+    let e = c .before .before .before .encode .ensures in
+    let g = c .before .r .given .1 in
+    same _ _ (c .before .before .before .before .before .before .before .instruction-at .ensures) _ _ (rw (
+      ← c .before .before
+          .before .before .before .before .fields-of .ensures,
+      ← c .before .before .before .before .before .same-fields .ensures,
+    )
+    (not-false (c .before .before .before .before .before .same-fields .result) (c .before .before .before .before .if1 .left)))
+    (sym (ap encodeNumber g) ∙ e .number) (sym (ap encodeValue g) ∙ e .value)
+
+returns-3 : tie.Need-returns-3
+returns-3 c =
+    let e = c .before .before .encode .ensures in
+    let g = c .enum-told .given .1 in
+    same _ _ (c .before .before .before .before .before .before .instruction-at .ensures) _ _ (rw (
+      ← c .before .before .before
+          .before .before .fields-of .ensures,
+      ← c .before .before .before .before .same-fields .ensures,
+    ) (not-false (c .before .before
+    .before .before .same-fields .result) (c .before .before .before .if1 .left))) (sym (ap encodeNumber g) ∙ e .number) (sym (ap
+    encodeValue g) ∙ e .value)
+
+pub trm-encode-spec : {M : Type 1} → statement M
+trm-encode-spec =
+    tie.close
+    (tie.spec
+    instruction-at-requires
+    fields-of-requires
+    same-fields-requires
+    returns
+    encode-requires
+    enum-known-r
+    enum-told
+    returns-2
+    returns-3)
