@@ -47,19 +47,22 @@ pub not-decoded : (w : ℕ) → wordRefusal w ≡ 3 → DecodeNumbered w (record
 unfolding fieldsGiven
 not-decoded w z = record { number = sym z; fields = rw z }
 
+-- the refusal and the word, over whether the fields are the instruction's
+abbrev refusalOf : Instruction → Bool → ℕ
+refusalOf i ok = cond (ok && fits i) 0 10
+
+abbrev wordOf : Instruction → Bool → ℕ
+wordOf i ok = cond (ok && fits i) (placed i) 0
+
 -- i is the instruction of the fields
-module _ (f : Fields) (i : Instruction) (at : i ≡ instructionAt f) where
-  refusal-at : cond (sameFields f (fieldsOf i) && fits i) 0 10 ≡ fieldsRefusal f
+module _ (f : Fields) (i : Instruction) (at : i ≡ instructionAt f) (ok : Bool) (e : sameFields f (fieldsOf i) ≡ ok) where
+  refusal-at : refusalOf i ok ≡ fieldsRefusal f
   unfolding fieldsRefusal fieldsFit
-  refusal-at = ap (λ (j : Instruction). cond (sameFields f (fieldsOf j) && fits j) 0 10) at
+  refusal-at = ap (refusalOf i) (sym e) ∙ ap (λ (j : Instruction). refusalOf j (sameFields f (fieldsOf j))) at
 
-  word-at : cond (sameFields f (fieldsOf i) && fits i) (placed i) 0 ≡ wordGiven f
+  word-at : wordOf i ok ≡ wordGiven f
   unfolding wordGiven fieldsFit
-  word-at = ap (λ (j : Instruction). cond (sameFields f (fieldsOf j) && fits j) (placed j) 0) at
+  word-at = ap (wordOf i) (sym e) ∙ ap (λ (j : Instruction). wordOf j (sameFields f (fieldsOf j))) at
 
-  pub not-same : sameFields f (fieldsOf i) ≡ false → EncodeNumbered f (record { number = 10; word = 0 })
-  not-same e = record { number = ap (λ b. cond (b && fits i) 0 10) (sym e) ∙ refusal-at; word = ap (λ b. cond (b && fits i) (placed i) 0) (sym e) ∙ word-at }
-
-  pub same : (n w : ℕ) → sameFields f (fieldsOf i) ≡ true → n ≡ instructionRefusal i → w ≡ cond (fits i) (placed i) 0
-      → EncodeNumbered f (record { number = n; word = w })
-  same n w e number word = record { number = number ∙ ap (λ b. cond (b && fits i) 0 10) (sym e) ∙ refusal-at; word = word ∙ ap (λ b. cond (b && fits i) (placed i) 0) (sym e) ∙ word-at }
+  pub encoded : (n w : ℕ) → n ≡ refusalOf i ok → w ≡ wordOf i ok → EncodeNumbered f (record { number = n; word = w })
+  encoded n w number word = record { number = number ∙ refusal-at; word = word ∙ word-at }

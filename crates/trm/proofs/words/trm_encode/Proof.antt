@@ -1,11 +1,18 @@
 -- The proof of trm::words::trm_encode.
-use Rattle.trm.proofs.Laws.{same, not-same}
+use Rattle.trm.proofs.Laws.{encoded}
 use borrow.Author.Tests.{not-true, not-false}
-use mathlib.Core.Path.{sym, ap, _∙_}
+use mathlib.Core.Bool.{true, false}
+use mathlib.Core.Path.{refl, sym, ap, _∙_}
 use Rattle.trm_codec.specs.Refusals.{encodeNumber, encodeValue}
 use borrow.Author.Needs.{needs}
 use Rattle.trm.proofs.words.trm_encode.Statement.{statement}
 use Rattle.trm.proofs.words.trm_encode.Tie as tie
+use Rattle.trm.proofs.words.trm_encode.Reads as reads
+use Rattle.trm.proofs.words.trm_encode.Lts as lts
+use Rattle.trm.proofs.fields.fields_of.Reads as fields-of-reads
+use Rattle.trm.proofs.fields.instruction_at.Reads as instruction-at-reads
+use Rattle.trm.proofs.fields.same_fields.Reads as same-fields-reads
+use Rattle.trm_codec.proofs.encoder.encode.Reads as encode-reads
 
 instruction-at-requires : tie.Need-instruction-at-requires
 instruction-at-requires c κs = search needs
@@ -18,11 +25,11 @@ same-fields-requires c κs = search needs
 
 returns : tie.Need-returns
 returns c =
-    not-same _ _ (c .before .before .before .instruction-at .ensures) (rw (
+    encoded _ _ (c .before .before .before .instruction-at .ensures) false (rw (
       ← c .before .before .fields-of .ensures,
       ← c .before
           .same-fields .ensures,
-    ) (not-true (c .before .same-fields .result) (c .if1 .taken)))
+    ) (not-true (c .before .same-fields .result) (c .if1 .taken))) _ _ refl refl
 
 encode-requires : tie.Need-encode-requires
 encode-requires c κs = search needs
@@ -37,25 +44,25 @@ returns-2 : tie.Need-returns-2
 returns-2 c =
     let e = c .before .before .before .encode .ensures in
     let g = c .before .r .given .1 in
-    same _ _ (c .before .before .before .before .before .before .before .instruction-at .ensures) _ _ (rw (
+    encoded _ _ (c .before .before .before .before .before .before .before .instruction-at .ensures) true (rw (
       ← c .before .before
           .before .before .before .before .fields-of .ensures,
       ← c .before .before .before .before .before .same-fields .ensures,
     )
-    (not-false (c .before .before .before .before .before .same-fields .result) (c .before .before .before .before .if1 .left)))
+    (not-false (c .before .before .before .before .before .same-fields .result) (c .before .before .before .before .if1 .left))) _ _
     (sym (ap encodeNumber g) ∙ e .number) (sym (ap encodeValue g) ∙ e .value)
 
 returns-3 : tie.Need-returns-3
 returns-3 c =
     let e = c .before .before .encode .ensures in
     let g = c .enum-told .given .1 in
-    same _ _ (c .before .before .before .before .before .before .instruction-at .ensures) _ _ (rw (
+    encoded _ _ (c .before .before .before .before .before .before .instruction-at .ensures) true (rw (
       ← c .before .before .before
           .before .before .fields-of .ensures,
       ← c .before .before .before .before .same-fields .ensures,
     ) (not-false (c .before .before
-    .before .before .same-fields .result) (c .before .before .before .if1 .left))) (sym (ap encodeNumber g) ∙ e .number) (sym (ap
-    encodeValue g) ∙ e .value)
+    .before .before .same-fields .result) (c .before .before .before .if1 .left))) _ _ (sym (ap encodeNumber g) ∙ e .number) (sym
+    (ap encodeValue g) ∙ e .value)
 
 pub trm-encode-spec : {M : Type 1} → statement M
 trm-encode-spec =
