@@ -1,5 +1,5 @@
 -- The record lent for one clock: a walk of its MIR, by hand. The record's borrow is opened, the whole record is copied out and passed to
--- `trm_clock_value` with the two slices, at their own lifetimes; the record that comes back is stored whole, and the borrow is closed at it.
+-- `trm_clock_value` with the two slices, at their own lifetimes; the record that comes back is stored whole, and the borrow closed at it.
 -- All that the proof knows of `trm_clock_value` is that it meets its contract. Assumes nothing.
 use mathlib.Core.Path.{_≡_, refl, ap}
 use Prim.Native.Nat.{ℕ, _<_, _^_}
