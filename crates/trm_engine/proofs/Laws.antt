@@ -5,3 +5,4 @@ pub mod Accepted
 pub mod Clear
 pub mod Shape
 pub mod One
+pub mod Begun

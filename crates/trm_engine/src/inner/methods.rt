@@ -62,31 +62,27 @@ impl Machine {
         let mut dirty = self.dirty;
         let mut block = self.block;
         let mut cached = self.words;
-        let charges = trm_word::inner::charge::base_charges();
         clear::clear_bytes(bytes);
         clear::clear_words(words);
-        let mut g = Going {
+        let began = Going {
             scalars: scalars,
             at: 0,
             finished: 0,
         };
-        while g.at < lines.len() {
-            g = turn::turn(
-                g,
-                program,
-                &mut regs,
-                &mut full,
-                &mut dirty,
-                &mut block,
-                &mut cached,
-                store,
-                lines,
-                inputs,
-                bytes,
-                words,
-                &charges,
-            );
-        }
+        let g = turn::all_turns(
+            began,
+            program,
+            &mut regs,
+            &mut full,
+            &mut dirty,
+            &mut block,
+            &mut cached,
+            store,
+            lines,
+            inputs,
+            bytes,
+            words,
+        );
         let after = g.scalars;
         let machine = Machine {
             scalars: after,
@@ -109,17 +105,49 @@ impl Machine {
             ≡ clockOf paperGeometry (now (program .entry)) (record { machine = recordOf self; store = now (store .entry) })
             (record { line = line; input = input }) ⌝ }
     {
+        let scalars = self.scalars;
+        let mut regs = self.regs;
+        let mut full = self.full;
+        let mut dirty = self.dirty;
+        let mut block = self.block;
+        let mut cached = self.words;
         let lines = [line; 1];
         let inputs = [input; 1];
         let mut bytes = [0u8; 1];
         let mut words = [0u32; 1];
-        let f = self.run(program, store, &lines, &inputs, &mut bytes, &mut words);
-        let machine = f.machine;
+        let began = Going {
+            scalars: scalars,
+            at: 0,
+            finished: 0,
+        };
+        let g = turn::all_turns(
+            began,
+            program,
+            &mut regs,
+            &mut full,
+            &mut dirty,
+            &mut block,
+            &mut cached,
+            store,
+            &lines,
+            &inputs,
+            &mut bytes,
+            &mut words,
+        );
+        let after = g.scalars;
+        let machine = Machine {
+            scalars: after,
+            regs: regs,
+            full: full,
+            dirty: dirty,
+            block: block,
+            words: cached,
+        };
         Ticked {
             machine: machine,
             byte: bytes[0],
             word: words[0],
-            done: f.finished,
+            done: g.finished,
         }
     }
 

@@ -2,7 +2,7 @@
 // Paper: "A clock with stall set is held"; "An unheld clock with no instruction in flight takes an interrupt if .. Otherwise it begins
 // an instruction".
 ghost use mathlib.Core.Path.{_≡_};
-ghost use Prim.Native.Nat.{_<_};
+ghost use Prim.Native.Nat.{_<_, _≤_};
 ghost use lib.ListN.{length};
 ghost use Rattle.trm_word.specs.Charge.{charges};
 ghost use Rattle.trm_cache.specs.Cache.{cache};
@@ -84,4 +84,50 @@ pub fn turn(
         bytes,
         outs,
     )
+}
+
+// Turn after turn, until each line byte has had its clock.
+pub fn all_turns(
+    mut g: Going,
+    program: &[u32],
+    regs: &mut [u32; 16],
+    full: &mut [u8; 16],
+    dirty: &mut [u8; 16],
+    block: &mut [u16; 16],
+    words: &mut [u32; 128],
+    store: &mut [u32],
+    lines: &[u8],
+    inputs: &[u32],
+    bytes: &mut [u8],
+    outs: &mut [u32],
+) -> Going
+    requires { ⌜ At (now program) (now lines) (now inputs) (point g (now regs) (cache (now full) (now dirty) (now block) (now words))
+        (now store)) (now bytes) (now outs) ⌝ }
+    ensures { λ r. ⌜ Turned (now (program .entry)) (now (lines .entry)) (now (inputs .entry))
+        (point g (now (regs .entry)) (cache (now (full .entry)) (now (dirty .entry)) (now (block .entry)) (now (words .entry)))
+        (now (store .entry)))
+        (now (bytes .entry)) (now (outs .entry))
+        (point r (now (regs .exit)) (cache (now (full .exit)) (now (dirty .exit)) (now (block .exit)) (now (words .exit)))
+        (now (store .exit)))
+        (now (bytes .exit)) (now (outs .exit)) × (length (now (lines .entry)) ≤ r .at) ⌝ }
+{
+    let base = trm_word::inner::charge::base_charges();
+    while g.at < lines.len() {
+        g = turn(
+            g,
+            program,
+            regs,
+            full,
+            dirty,
+            block,
+            words,
+            store,
+            lines,
+            inputs,
+            bytes,
+            outs,
+            &base,
+        );
+    }
+    g
 }

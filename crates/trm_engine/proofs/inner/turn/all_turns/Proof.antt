@@ -1,0 +1,63 @@
+-- The proof of trm_engine::inner::turn::all_turns.
+use borrow.Author.Needs.{needs}
+use mathlib.Core.Path.{sym, _∙_}
+use Prim.Native.Nat.{_-_}
+use native.Mathlib.Omega.{arith}
+use lib.ListN.{length}
+use Rattle.trm_cache.specs.Cache.{cache}
+use Rattle.trm_ahead.specs.Reached.{point, Turned}
+use Rattle.trm_engine.proofs.inner.turn.all_turns.Statement.{statement}
+use Rattle.trm_engine.proofs.inner.turn.all_turns.Tie as tie
+use Rattle.trm_engine.proofs.inner.turn.all_turns.Reads as reads
+use Rattle.trm_engine.proofs.inner.turn.all_turns.Lts as lts
+use Rattle.trm_engine.proofs.inner.turn.turn.Reads as turn-reads
+use Rattle.trm_word.proofs.inner.charge.base_charges.Reads as base-charges-reads
+
+abbrev Inv-loop : tie.InvT-loop
+Inv-loop g₀ program regs₀ full₀ dirty₀ block₀ words₀ store₀ lines inputs bytes₀ outs₀ base g regs full dirty block words store bytes outs = Turned program lines inputs (point g₀ regs₀ (cache full₀ dirty₀ block₀ words₀) store₀) bytes₀ outs₀ (point g regs (cache full dirty block words) store) bytes outs
+
+abbrev μ-loop : tie.MeasureT-loop
+μ-loop g₀ program regs₀ full₀ dirty₀ block₀ words₀ store₀ lines inputs bytes₀ outs₀ base g regs full dirty block words store bytes outs = length lines - g .at
+
+base-charges-requires : tie.Need-base-charges-requires Inv-loop μ-loop
+base-charges-requires c κs = search needs
+
+loop-holds : tie.Need-loop-holds Inv-loop μ-loop
+loop-holds c = λ x so. so
+
+turn-requires : tie.Need-turn-requires Inv-loop μ-loop
+turn-requires c κs = let a = c .before .before .before .before .before .before .before .before .before .before .before .before .before .before .before .before .before .before .before .pre in (record { from = a .from; so = c .before .before .before .before .before .before .before .before .before .before .before .loop .inv _ (a .so) }, c .before .before .before .before .before .before .before .before .before .before .before .before .base-charges .ensures, c .before .before .before .before .before .before .before .before .before .if1 .taken)
+
+loop-less : tie.Need-loop-less Inv-loop μ-loop
+loop-less c = omega (arith, c .before .before .before .before .before .before .turn .ensures .1, c .before .before .before .before .before .before .before .before .before .before .before .before .before .before .before .before .if1 .taken)
+
+loop-again : tie.Need-loop-again Inv-loop μ-loop
+loop-again c = λ x so. c .before .before .before .before .before .before .turn .ensures .0 x (c .before .before .before .before .before .before .before .before .before .before .before .before .before .before .before .before .before .before .loop .inv x so)
+
+same-length : tie.Need-same-length Inv-loop μ-loop
+same-length c = let a = c .before .before .before .before .before .before .before .before .before .before .pre in c .before .before .loop .inv _ (a .so) .long ∙ sym (a .so .long)
+
+same-length-2 : tie.Need-same-length-2 Inv-loop μ-loop
+same-length-2 c = let a = c .before .before .before .before .before .before .before .before .before .before .pre in c .before .before .loop .inv _ (a .so) .wide ∙ sym (a .so .wide)
+
+same-length-3 : tie.Need-same-length-3 Inv-loop μ-loop
+same-length-3 c = let a = c .before .before .before .before .before .before .before .before .before .before .pre in c .before .before .loop .inv _ (a .so) .broad ∙ sym (a .so .broad)
+
+returns : tie.Need-returns Inv-loop μ-loop
+returns c = (c .before .before .loop .inv, c .if1 .left)
+
+pub all-turns-spec : {M : Type 1} → statement M
+all-turns-spec =
+    tie.close
+    (tie.spec
+    Inv-loop
+    μ-loop
+    base-charges-requires
+    loop-holds
+    turn-requires
+    loop-less
+    loop-again
+    same-length
+    same-length-2
+    same-length-3
+    returns)
