@@ -1,11 +1,6 @@
 // Reset, clock and run, for any caller and any input.
 // Paper: "Checks go down the table .. It returns the number only and writes nothing".
 // The refusal is told first; nothing is touched before it is known that there is none.
-ghost use mathlib.Core.Path.{_≡_};
-ghost use Rattle.trm_reference.specs.Geometry.{paperGeometry};
-ghost use Rattle.trm_core.specs.Refusals.{clockRefusal, runRefusal};
-ghost use Rattle.trm_refusals.specs.Numbers.{numberOf};
-ghost use Rattle.trm_engine.specs.Machine.{recordOf};
 ghost use Rattle.trm_calls.specs.Outcome.{ResetHolds, ClockHolds, RunHolds};
 use crate::answer::Clock;
 use crate::answer::Reset;
@@ -35,9 +30,9 @@ pub fn reset(store: &[u32]) -> Reset
     }
 }
 
-// The refusal of a clock call.
-fn clock_refused(m: Machine, program: &[u32], store: &[u32], line: u8) -> Refusal
-    ensures { λ r. ⌜ numberOf r ≡ clockRefusal paperGeometry (now (program .entry)) (recordOf m) (now (store .entry)) line ⌝ }
+// One clock.
+pub fn clock(m: Machine, program: &[u32], store: &mut [u32], line: u8, input: u32) -> Clock
+    ensures { λ r. ⌜ ClockHolds m (now (program .entry)) (now (store .entry)) line input r (now (store .exit)) ⌝ }
 {
     let c = m.scalars;
     let regs = m.regs;
@@ -45,7 +40,7 @@ fn clock_refused(m: Machine, program: &[u32], store: &[u32], line: u8) -> Refusa
     let dirty = m.dirty;
     let block = m.block;
     let words = m.words;
-    calls::clock_refusal(
+    let refused = calls::clock_refusal(
         c,
         program,
         &regs,
@@ -55,14 +50,7 @@ fn clock_refused(m: Machine, program: &[u32], store: &[u32], line: u8) -> Refusa
         &words,
         store,
         line,
-    )
-}
-
-// One clock.
-pub fn clock(m: Machine, program: &[u32], store: &mut [u32], line: u8, input: u32) -> Clock
-    ensures { λ r. ⌜ ClockHolds m (now (program .entry)) (now (store .entry)) line input r (now (store .exit)) ⌝ }
-{
-    let refused = clock_refused(m, program, store, line);
+    );
     if !record::accepted(refused) {
         return Clock {
             machine: m,
@@ -83,41 +71,6 @@ pub fn clock(m: Machine, program: &[u32], store: &mut [u32], line: u8, input: u3
     }
 }
 
-// The refusal of a run.
-fn run_refused(
-    m: Machine,
-    program: &[u32],
-    store: &[u32],
-    lines: &[u8],
-    inputs: &[u32],
-    bytes: &[u8],
-    words: &[u32],
-) -> Refusal
-    ensures { λ r. ⌜ numberOf r ≡ runRefusal paperGeometry (now (program .entry)) (recordOf m) (now (store .entry)) (now (lines .entry))
-        (now (inputs .entry)) (now (bytes .entry)) (now (words .entry)) ⌝ }
-{
-    let c = m.scalars;
-    let regs = m.regs;
-    let full = m.full;
-    let dirty = m.dirty;
-    let block = m.block;
-    let cached = m.words;
-    calls::run_refusal(
-        c,
-        program,
-        &regs,
-        &full,
-        &dirty,
-        &block,
-        &cached,
-        store,
-        lines,
-        inputs,
-        bytes,
-        words,
-    )
-}
-
 // One clock for each line byte.
 pub fn run(
     m: Machine,
@@ -131,7 +84,26 @@ pub fn run(
     ensures { λ r. ⌜ RunHolds m (now (program .entry)) (now (store .entry)) (now (lines .entry)) (now (inputs .entry)) (now (bytes .entry))
         (now (words .entry)) r (now (store .exit)) (now (bytes .exit)) (now (words .exit)) ⌝ }
 {
-    let refused = run_refused(m, program, store, lines, inputs, bytes, words);
+    let c = m.scalars;
+    let regs = m.regs;
+    let full = m.full;
+    let dirty = m.dirty;
+    let block = m.block;
+    let cached = m.words;
+    let refused = calls::run_refusal(
+        c,
+        program,
+        &regs,
+        &full,
+        &dirty,
+        &block,
+        &cached,
+        store,
+        lines,
+        inputs,
+        bytes,
+        words,
+    );
     if !record::accepted(refused) {
         return Run {
             machine: m,

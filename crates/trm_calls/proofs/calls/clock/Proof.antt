@@ -5,9 +5,14 @@ use Rattle.trm_calls.specs.Outcome.{clockGives}
 use borrow.Author.Needs.{needs}
 use Rattle.trm_calls.proofs.calls.clock.Statement.{statement}
 use Rattle.trm_calls.proofs.calls.clock.Tie as tie
+use Rattle.trm_calls.proofs.calls.clock.Reads as reads
+use Rattle.trm_calls.proofs.calls.clock.Lts as lts
+use Rattle.trm_engine.proofs.machine.Machine.clock.Reads as clock-reads
+use Rattle.trm_refusals.proofs.inner.calls.clock_refusal.Reads as clock-refusal-reads
+use Rattle.trm_refusals.proofs.inner.record.accepted.Reads as accepted-reads
 
-clock-refused-requires : tie.Need-clock-refused-requires
-clock-refused-requires c κs = search needs
+clock-refusal-requires : tie.Need-clock-refusal-requires
+clock-refusal-requires c κs = search needs
 
 accepted-requires : tie.Need-accepted-requires
 accepted-requires c κs = search needs
@@ -17,42 +22,46 @@ same-length c = search needs
 
 returns : tie.Need-returns
 unfolding clockGives
-returns c = record {
-  number = c .before .before .clock-refused .ensures;
-  outcome = rw (
-    ← c .before .before .clock-refused .ensures,
-    ← c .before .accepted .ensures,
-    not-true (c .before .accepted .result)
-        (c .if1 .taken),
-  );
-}
+returns c =
+    record {
+      number = c .before .before .clock-refusal .ensures;
+      outcome = rw (
+        ← c .before .before .clock-refusal .ensures,
+        ← c
+            .before .accepted .ensures,
+        not-true (c .before .accepted .result) (c .if1 .taken),
+      );
+    }
 
 clock-requires : tie.Need-clock-requires
 unfolding clockGives
-clock-requires c κs = code-zero (c .before .before .before .clock-refused .ensures) (c .before .before .accepted .ensures) (not-false
-    (c .before .before .accepted .result) (c .before .if1 .left))
+clock-requires c κs =
+    code-zero (c .before .before .before .clock-refusal .ensures) (c .before .before .accepted .ensures) (not-false (c .before
+    .before .accepted .result) (c .before .if1 .left))
 
 same-length-2 : tie.Need-same-length-2
 same-length-2 c = search needs
 
 returns-2 : tie.Need-returns-2
 unfolding clockGives
-returns-2 c = record {
-  number = c .before .before .before .before .before .before .before .clock-refused .ensures;
-  outcome = rw (
-    ← c .before .before .before .before .before .before .before .clock-refused .ensures,
-    ← c .before .before .before .before .before .before .accepted .ensures,
-    not-false
-        (c .before .before .before .before .before .before .accepted .result) (c .before .before .before .before .before .if1 .left),
-  )
-      (c .before .before .before .clock .ensures);
-}
+returns-2 c =
+    record {
+      number = c .before .before .before .before .before .before .before .clock-refusal .ensures;
+      outcome = rw (
+        ← c .before
+            .before .before .before .before .before .before .clock-refusal .ensures,
+        ← c .before .before .before .before .before .before
+            .accepted .ensures,
+        not-false (c .before .before .before .before .before .before .accepted .result) (c .before .before .before
+            .before .before .if1 .left),
+      ) (c .before .before .before .clock .ensures);
+    }
 
 pub clock-spec : {M : Type 1} → statement M
 clock-spec =
     tie.close
     (tie.spec
-    clock-refused-requires
+    clock-refusal-requires
     accepted-requires
     same-length
     returns

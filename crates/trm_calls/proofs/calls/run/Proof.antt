@@ -1,13 +1,18 @@
 -- The proof of trm_calls::calls::run.
+use Rattle.trm_refusals.proofs.Laws.{code-zero}
 use borrow.Author.Tests.{not-true, not-false}
 use Rattle.trm_calls.specs.Outcome.{runGives}
-use Rattle.trm_refusals.proofs.Laws.{code-zero}
 use borrow.Author.Needs.{needs}
 use Rattle.trm_calls.proofs.calls.run.Statement.{statement}
 use Rattle.trm_calls.proofs.calls.run.Tie as tie
+use Rattle.trm_calls.proofs.calls.run.Reads as reads
+use Rattle.trm_calls.proofs.calls.run.Lts as lts
+use Rattle.trm_engine.proofs.machine.Machine.run.Reads as run-reads
+use Rattle.trm_refusals.proofs.inner.calls.run_refusal.Reads as run-refusal-reads
+use Rattle.trm_refusals.proofs.inner.record.accepted.Reads as accepted-reads
 
-run-refused-requires : tie.Need-run-refused-requires
-run-refused-requires c κs = search needs
+run-refusal-requires : tie.Need-run-refusal-requires
+run-refusal-requires c κs = search needs
 
 accepted-requires : tie.Need-accepted-requires
 accepted-requires c κs = search needs
@@ -23,21 +28,22 @@ same-length-3 c = search needs
 
 returns : tie.Need-returns
 unfolding runGives
-returns c = record {
-  number = c .before .before .run-refused .ensures;
-  outcome = rw (
-    ← c .before .before .run-refused .ensures,
-    ← c .before .accepted .ensures,
-    not-true (c .before .accepted .result)
-        (c .if1 .taken),
-  );
-}
+returns c =
+    record {
+      number = c .before .before .run-refusal .ensures;
+      outcome = rw (
+        ← c .before .before .run-refusal .ensures,
+        ← c .before
+            .accepted .ensures,
+        not-true (c .before .accepted .result) (c .if1 .taken),
+      );
+    }
 
 run-requires : tie.Need-run-requires
 unfolding runGives
-run-requires c κs = code-zero (c .before .before .before .before .before .run-refused .ensures)
-    (c .before .before .before .before .accepted .ensures) (not-false (c .before .before .before .before .accepted .result)
-    (c .before .before .before .if1 .left))
+run-requires c κs =
+    code-zero (c .before .before .before .before .before .run-refusal .ensures) (c .before .before .before .before .accepted
+    .ensures) (not-false (c .before .before .before .before .accepted .result) (c .before .before .before .if1 .left))
 
 same-length-4 : tie.Need-same-length-4
 same-length-4 c = search needs
@@ -53,12 +59,12 @@ unfolding runGives
 returns-2 c =
     let c10 = c .before .before .before .before .before .before .before .before .before .before in
     record {
-      number = c10 .before .before .before .run-refused .ensures;
+      number = c10 .before .before .before .run-refusal .ensures;
       outcome = rw (
-        ← c10 .before .before .before .run-refused .ensures,
+        ← c10 .before .before .before .run-refusal
+            .ensures,
         ← c10 .before .before .accepted .ensures,
-        not-false
-            (c10 .before .before .accepted .result) (c10 .before .if1 .left),
+        not-false (c10 .before .before .accepted .result) (c10 .before .if1 .left),
       )
           (c .before .before .before .before .before .before .before .run .ensures);
     }
@@ -67,7 +73,7 @@ pub run-spec : {M : Type 1} → statement M
 run-spec =
     tie.close
     (tie.spec
-    run-refused-requires
+    run-refusal-requires
     accepted-requires
     same-length
     same-length-2

@@ -89,7 +89,8 @@ returns-3 c =
     let fr = sym (c .before .before .before .before .before .before .before .before .before .is-stalled .ensures) ∙ c .before
     .before .before .before .before .before .before .before .if1 .left in (
       λ x₀ k. quiet-answered _ _ _ x₀ _ _ _ _ _ _ k mo _ 0 _ _ _ (interrupt-here _ _ _ _ _ _ fr (c .before .before .before .before
-          .before .if2 .left) _ (c .before .before .before .before .interrupt-chosen .ensures .0) (c .before .before .before .if3 .taken)
+          .before .if2 .left) _ (c .before .before .before .before .interrupt-chosen .ensures .0)
+          (c .before .before .before .if3 .taken)
           _ _ (c .before .take-interrupt .ensures .0) (c .before .take-interrupt .ensures .1)) _ (c .quietly .ensures),
       rw (c .quietly
           .ensures) (omega arith),

@@ -24,7 +24,14 @@ slice-aggregate-all-turns-4 : tie.Need-slice-aggregate-all-turns-4
 slice-aggregate-all-turns-4 c = search needs
 
 all-turns-requires : tie.Need-all-turns-requires
-all-turns-requires c κs = record { from = _; so = begun _ _ _ _ _ _ _ _ (one-free _ _ _ _ _ 0 0 (c .before .before .before .before .before .before .before .before .before .before .before .before .before .before .before .before .before .before .pre)) (shaped-by-type _ _ (c .before .before .before .before .before .before .before .before .before .before .before .before .before .before .before .before .before .before .good .0)) refl refl }
+all-turns-requires c κs =
+    let c10 = c .before .before .before .before .before .before .before .before .before .before in
+    record {
+      from = _;
+      so = begun _ _ _ _ _ _ _ _ (one-free _ _ _ _ _ 0 0 (c10 .before .before .before .before .before .before
+          .before .before .pre)) (shaped-by-type _ _ (c10 .before .before .before .before .before .before .before .before .good .0)) refl
+          refl;
+    }
 
 array-read-t42 : tie.Need-array-read-t42
 array-read-t42 c = search needs
@@ -33,10 +40,19 @@ array-read-t45 : tie.Need-array-read-t45
 array-read-t45 c = search needs
 
 same-length : tie.Need-same-length
-same-length c = c .before .before .before .before .before .all-turns .ensures .0 _ (begun _ _ _ _ _ _ _ _ (one-free _ _ _ _ _ 0 0 (c .before .before .before .before .before .before .before .before .before .before .before .before .before .before .before .before .before .before .before .before .before .before .before .before .pre)) (shaped-by-type _ _ (c .before .before .before .before .before .before .before .before .before .before .before .before .before .before .before .before .before .before .before .before .before .before .before .before .good .0)) refl refl) .long
+same-length c =
+    let c10 = c .before .before .before .before .before .before .before .before .before .before in
+    let c20 = c10 .before .before .before .before .before .before .before .before .before .before in
+    c .before .before .before .before .before .all-turns .ensures .0 _ (begun _ _ _ _ _ _ _ _ (one-free _ _ _ _ _ 0 0 (c20 .before
+    .before .before .before .pre)) (shaped-by-type _ _ (c20 .before .before .before .before .good .0)) refl refl) .long
 
 returns : tie.Need-returns
-returns c = one-ran _ _ _ _ _ _ _ _ (reached-end _ _ _ _ _ _ _ (c .before .before .before .before .before .all-turns .ensures .0 _ (begun _ _ _ _ _ _ _ _ (one-free _ _ _ _ _ 0 0 (c .before .before .before .before .before .before .before .before .before .before .before .before .before .before .before .before .before .before .before .before .before .before .before .before .pre)) (shaped-by-type _ _ (c .before .before .before .before .before .before .before .before .before .before .before .before .before .before .before .before .before .before .before .before .before .before .before .before .good .0)) refl refl)) (c .before .before .before .before .before .all-turns .ensures .1))
+returns c =
+    let c10 = c .before .before .before .before .before .before .before .before .before .before in
+    let c20 = c10 .before .before .before .before .before .before .before .before .before .before in
+    one-ran _ _ _ _ _ _ _ _ (reached-end _ _ _ _ _ _ _ (c .before .before .before .before .before .all-turns .ensures .0 _ (begun _
+    _ _ _ _ _ _ _ (one-free _ _ _ _ _ 0 0 (c20 .before .before .before .before .pre)) (shaped-by-type _ _ (c20 .before .before
+    .before .before .good .0)) refl refl)) (c .before .before .before .before .before .all-turns .ensures .1))
 
 pub clock-spec : {M : Type 1} → statement M
 clock-spec =
