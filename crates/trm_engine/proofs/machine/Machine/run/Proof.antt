@@ -1,4 +1,5 @@
 -- The proof of trm_engine::machine::Machine::run.
+-- Invariant: the run has reached this point of the clock history. The measure is the lines left.
 use Prim.Native.Nat.{_-_}
 use native.Mathlib.Omega.{arith}
 use mathlib.Core.Path.{sym, _∙_}
