@@ -1,7 +1,7 @@
--- What the exported calls give on every input: the outcome of the call of trm_calls or trm_inspect, with the paper's number.
+-- What the exported calls give on every input: the outcome of the call of trm_calls, trm_inspect or trm_image, with the paper's number.
 -- Paper: "Where calls are turned down"; "The clock call takes the record and returns it". Assumes nothing.
---   ResetNumbered, ClockNumbered, RunNumbered, LookNumbered, CopyNumbered, WatchNumbered   the whole promise of each call, r its result
---   valueOf   a sighting as the watch returns it
+--   ResetNumbered, ClockNumbered, RunNumbered, LookNumbered, CopyNumbered, WatchNumbered, ImageNumbered   a call's promise, r its result
+--   withRecord   the lent clock's answer with its record        valueOf   a sighting as the watch returns it
 use Prim.Native.Nat.{ℕ}
 use mathlib.Core.Path.{_≡_}
 use mathlib.Core.List.{List}

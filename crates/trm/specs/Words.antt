@@ -1,4 +1,4 @@
--- What decode and encode give a C caller on every input: the outcome of the call of trm_codec, with the paper's number.
+-- What decode and encode give a C caller on every input: the outcome of the call of trm_codec, or 10 for fields of no instruction.
 -- Paper: "What a programmer sees", the format of each operation; rows 3 and 10 of the refusals. Assumes nothing.
 --   fieldsGiven w, fieldsRefusal f, wordGiven f     what is given
 --   DecodeNumbered, EncodeNumbered                  the whole promise of each call, r being its result
@@ -18,7 +18,7 @@ use Rattle.trm.specs.Fields.{plainFields, fieldsOf, instructionAt, field
 unfoldable pub fieldsGiven : ℕ → Fields
 fieldsGiven w = cond (eqb (wordRefusal w) 0) (fieldsOf (instructionOf w)) (plainFields 0 0 0 0)
 
--- 10: "a field outside its width"
+-- 10: "a field outside its width", and fields that are no instruction's: `fieldsFit`
 unfoldable pub fieldsRefusal : Fields → ℕ
 fieldsRefusal f = cond (fieldsFit f) 0 10
 

@@ -6,7 +6,7 @@ ghost use Rattle.trm_image.specs.Numbers.{numberOf};
 ghost use Rattle.trm.specs.Numbered.{ImageNumbered};
 use trm_image::fault::Fault;
 
-// `at` is the byte where the record at fault begins.
+// `at` is the byte where the record at fault begins; 0 if there is none: accepted, row 4, too long or empty.
 #[repr(C)]
 pub struct ImageAnswer {
     pub number: u32,

@@ -1,6 +1,6 @@
 // Decode and encode, as C sees them: the word, and the instruction as plain numbers.
 // Paper: "What a programmer sees", the format of each operation; rows 3 and 10 of the refusals.
-// Each is the call of trm_codec with the number in place of the enum.
+// Each is the call of trm_codec with the number in place of the enum; encode first gives 10 to fields that are no instruction's.
 ghost use Rattle.trm.specs.Words.{DecodeNumbered, EncodeNumbered};
 use crate::fields;
 use crate::fields::Fields;

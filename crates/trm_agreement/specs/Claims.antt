@@ -35,9 +35,15 @@ use Rattle.trm_agreement.specs.Plain.{LedgerKept, Bounded, DevicesHold, 
 --   also the clocks used, the instructions finished and both answer buffers at exit.
 -- A clock call's clock is what the call handed back. A run hands back its last state alone, which its end shows: within a run the
 -- states between the first and the last, and each clock's entry, are those of the clock history (see `RunPrefix`).
--- A call that lends another program or a store of another length is not in the list: refused, it is in `refused-keeps`.
--- Both logs share, and so do not judge: what a word does (`execute`), the clock table (`chargeBy`), the answers, the interrupt rule,
--- rows 3 and 6 to 8, `feed` and `answer`. For these stand the tables of trm_reference, the scenario and `runs-are-runs`.
+-- A call of the list carries a line byte and an input word, or the four lists of a run. It is given the program p and the record and
+-- store that the call before it left, so none is refused with 4, and 3 is given by every call of the list or by none. A call with
+-- another program or store is not in the list: if it is refused, `refused-keeps` speaks of it; if not, its contract alone.
+-- Both logs share, and so do not judge: the word at PC (`wordAt`), what it does (`execute`) with what it loads and stores, the place,
+-- block and line of its access (`addressOf`, `placeOf`, `target`, `blockOf`, `lineOf`) and its answer (`answerOf`); which words go
+-- through the cache, past it or turn it off, and the clock table (`chargeBy`); `stalled` and the interrupt rule (`interruptChosen`,
+-- `interrupted`); rows 3 and 6 to 8; how a call is fed and answered (`feed`, `answer`, `clocks`, `finishedIn`, `bytesOf`, `wordsOf`).
+-- Cases of these are computed: the tables of trm_reference, `Bench` of trm_alu, the scenario; for the rows stand `refusals-hold` and
+-- `limits` of trm_core, for the runs `runs-are-runs`.
 abbrev pub SameExchange : Type 0
 SameExchange =
     (p s : List ℕ) (r : Reset) (cs : List Call) (as′ : List Returned)
@@ -80,8 +86,8 @@ ExchangeNeverFive =
     → ResetMet s r → refusalNumber (r .refused) ≡ 0 → Exchange p (r .machine) s cs as′
     → All (λ a. codeReturned a ≢ 5) as′
 
--- "It returns the number only and writes nothing": whatever the call, if it is refused then the record returned, the store and the
--- buffers are as they were given, the answers and the counts zero.
+-- "It returns the number only and writes nothing", of the clock call and the run: if one is refused then the record returned, the store
+-- and the buffers are as they were given, the answers and the counts zero. Of reset, look, copy and watch their contracts say it.
 pub record Refused : Type 0 where
   pub clock : (m : Machine) (p s : List ℕ) (line input : ℕ) (r : Clock) (s′ : List ℕ) → ClockMet m p s line input r s′
       → refusalNumber (r .refused) ≢ 0

@@ -1,6 +1,6 @@
--- The paper's arithmetic bench cases as rows of one table, computed: the nine starred ones, a row for each other operation, and those
--- that tell wrong versions apart. Paper: "Bench cases". A row is an operation with B and A, what was there before it (H, C, V), and
--- R.d, H, N, Z, C, V after it. Assumes nothing.
+-- Arithmetic cases, computed: the paper's nine starred ones, some that tell wrong versions apart, and a row for each operation 0-10. The
+-- one table that the paper asks for is `Starred` of trm_reference (D-46). Paper: "Bench cases". A row is an operation with B and A, what
+-- was there before it (H, C, V), and R.d, H, N, Z, C, V after it. Assumes nothing.
 --   rows      the table        AllHold rs   every row's outcome is what the row gives
 use Prim.Native.Nat.{ℕ, _-_, _^_}
 use mathlib.Core.Path.{_≡_}

@@ -1,6 +1,6 @@
 -- The results of operations 0-10: what they put into R.d and H.
--- Paper: "What a programmer sees", the list from 0 MOV to 9 DIV. A is the operand, B is R.d.
--- Assumes nothing.
+-- Paper: "What a programmer sees", the list from 0 MOV to 9 DIV. A is R.s, the literal, or H for MOV from H (`operandA` of
+-- trm_reference); B is R.d. Assumes nothing.
 --   resultOf op a b    R.d after operation op
 --   highOf op a b h    H after operation op, h before it
 use Prim.Native.Nat.{ℕ, _+_, _-_, _*_, _/_, _%_, _^_}

@@ -81,7 +81,7 @@ abbrev pub storedTo : Geometry → Cache → ℕ → ℕ → ℕ → Cache
 storedTo G ca l i x =
     cache (ca .full) (set (ca .dirty) l 1) (ca .block) (set (ca .words) (l * stride G + i) x)
 
--- "Each ten is two waits and eight words in rising order": the store after the clock of a write-back that k came before;
+-- "Each ten is two waits and eight words in rising order": the store after a clock of a write-back, k of its clocks being done;
 -- where a word is moved k is at or above the waits, so the difference does not truncate
 unfoldable pub writeWord : Geometry → Line → List ℕ → ℕ → List ℕ
 writeWord G ln s k =
@@ -89,7 +89,7 @@ writeWord G ln s k =
     (set s (ln .block * G .words + (k - G .waits)) (getD (ln .words) (k - G .waits) 0))
     s
 
--- the cache after the clock of a refill of line l with block b that k came before
+-- the cache after a clock of a refill of line l with block b, k of its clocks being done
 unfoldable pub fillWord : Geometry → Cache → ℕ → List ℕ → ℕ → ℕ → Cache
 fillWord G ca l s b k =
     cond (leb (G .waits) k) (withWord G ca l (k - G .waits) (getD s (b * G .words + (k - G .waits)) 0)) ca

@@ -48,7 +48,7 @@ line l = lineAt paperGeometry sample l
 abbrev pub viewed : ℕ → List ℕ → List ℕ
 viewed n addresses = map (view paperGeometry sample (rising n 100)) addresses
 
--- the one clock of a burst that k came before
+-- one clock of a burst, k of its clocks being done
 abbrev pub writing : ℕ → List ℕ
 writing k = writeWord paperGeometry (line 2) (rising 64 100) k
 

@@ -14,7 +14,7 @@ use Rattle.trm_listing.specs.Claims.{Claims as ListingClaims}
 use Rattle.trm_claims.specs.Pieces.{PiecesAreOutput}
 
 pub record Claims : Type 0 where
-  -- words: addresses, conditions, charges
+  -- words: addresses, devices, conditions
   pub word : WordClaims
   -- decode and encode are inverse
   pub codec : CodecClaims

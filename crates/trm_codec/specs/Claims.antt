@@ -1,5 +1,5 @@
 -- What is claimed of decode and encode beside their contracts: one statement to a field.
--- Paper: "Unused bits encode as zero"; rows 3 and 10; demand 2: decode and encode are inverse. Value: proofs/Theorems.antt.
+-- Paper: "Unused bits encode as zero"; rows 3 and 10. README, demand 2: decode and encode are inverse. Value: proofs/Theorems.antt.
 -- Assumes nothing.
 use Prim.Native.Nat.{ℕ, _^_, _<_}
 use mathlib.Core.Path.{_≡_}

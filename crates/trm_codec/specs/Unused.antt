@@ -10,7 +10,7 @@ use lib.ListN.{getD}
 use lib.Bits.{bitAnd}
 use Rattle.trm_word.specs.Fields.{bit, movesHigh, operation, jumpForm}
 
--- 0–10. MOV H: bits 17–10 and 3 (9–4 and s unused). Register: bits 17–10 and s (9–3 unused). Literal: all.
+-- 0–10. MOV H: bits 17–10 and 3 (9–4 and s unused). Register: bits 17–10 and s (9–3 unused; of MOV 9–4, bit 3 being 0). Literal: all.
 abbrev pub usedArithmetic : ℕ → ℕ
 usedArithmetic w = cond (movesHigh w) 0x3FC08 (cond (eqb (bit 10 w) 1) 0x3FC07 0x3FFFF)
 

@@ -90,8 +90,8 @@ abbrev pub ResetKept : Type 0
 ResetKept =
     (G : Geometry) (p s : List ℕ) → geometryOk G ≡ true → resetRefusal s ≡ 0 → Kept G p (start G s)
 
--- For every record, accepted or not: an input word matters only in a clock whose answer byte shows a read. (The earlier simulator read
--- its device in both clocks of a load; that a load shows its read in one clock alone is `silence` above.)
+-- For every record, accepted or not: an input word matters only in a clock whose answer byte shows a read. That a load shows its read
+-- in one clock alone is `silence` above.
 abbrev pub Deaf : Type 0
 Deaf =
     (G : Geometry) (p : List ℕ) (x : Lent) (line i j : ℕ)
@@ -129,8 +129,8 @@ HeldWaits =
 abbrev pub ClocksAreThree : Type 0
 ClocksAreThree = (G : Geometry) (p : List ℕ) (x : Lent) (pins : Pins) → Clocked G p x pins
 
--- "What a programmer sees changes only in an instruction's last clock", for every record: a clock that carries nothing out and takes no
--- interrupt leaves it, and answers nothing.
+-- "What a programmer sees changes only in an instruction's last clock", but for data memory, and for every record: a clock that carries
+-- nothing out and takes no interrupt leaves it, and answers nothing. Of memory speak trm_agreement (`quiet`, `same-exchange`) and D-33.
 pub record Unseen (G : Geometry) (p : List ℕ) (x : Lent) (pins : Pins) : Type 0 where
   pub visible : visibleOf (clockOf G p x pins .state .machine) ≡ visibleOf (x .machine)
   pub answer : clockOf G p x pins .out ≡ silent 0

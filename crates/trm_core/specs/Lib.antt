@@ -1,4 +1,4 @@
--- The clocked machine, in reading order: the record, the clock, the run, what calls give back and when they are refused.
+-- The clocked machine, in reading order: the record, the clock, the rule, the refusals, the run, what is observed; cases; claims.
 -- Paper: "Clock by clock"; "Where calls are turned down".
 -- Assumes nothing.
 pub mod Record

@@ -1,4 +1,4 @@
--- The refusals of every call, down the table; 0 means that the call is not refused.
+-- The refusals of reset, clock, run, look, copy and watch, down the table; 0: not refused. Of words see trm_codec, of images trm_image.
 -- Paper: "Where calls are turned down": "Checks go down the table; a call skips rows about things it does not take."
 -- Assumes nothing.
 --   resetRefusal, clockRefusal, runRefusal, lookRefusal, copyRefusal, watchRefusal

@@ -1,6 +1,6 @@
--- The refusals, computed: a row for every call and every number that it can give, and sixty for the clauses of row 5.
--- Paper: "Where calls are turned down". The expected numbers are those of a second reading of the paper, tests/machine/refused.py.
--- Assumes nothing.
+-- The refusals, computed: a row for every call and number that it can give; for the clauses of row 5 refused records and accepted ones.
+-- Paper: "Where calls are turned down". The expected numbers are those of tests/machine/refused.py, a reading of the paper whose author
+-- had read the record rule and the refusals here (D-44). Assumes nothing.
 --   rows      what a call gives, and what is expected of it        AllGive rs   every row gives what is expected
 use Prim.Native.Nat.{ℕ, _+_, _-_}
 use mathlib.Core.Path.{_≡_}

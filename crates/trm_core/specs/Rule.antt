@@ -1,7 +1,10 @@
--- The record rule, row 5, a named part for each clause.
--- Paper: "The record holds phase and count: ..", "Phase 1 needs ..", row 5 of the refusals. Registers, H and words have 32 bits by
--- their types. The store's length is n; w is the word at PC. Assumes nothing.
---   widthsOk, phaseOk, registersOk, countsOk, linesOk   the clauses        recordOk G p n m   all of them
+-- The record rule, row 5, a named part for each clause. The store's length is n; w is the word at PC.
+-- Paper: "The record holds phase and count: ..", "Phase 1 needs ..", row 5 of the refusals.
+-- Assumes nothing. Each field and the clause that holds it to its width (D-07):
+--   widthsOk   PC, N, Z, C, V, status        phaseOk   phase, count        registersOk   product, remainder, quotient
+--   countsOk   clocks, held, refills, write-backs        linesOk   of every line full and dirty (marksOk), block (lineOk)
+--   none here: `size`, which row 4 holds to the store; registers, H and cached words, 32 bits by their types in code, which are in
+--   src/record.rt and in trm_engine's src/machine.rt        recordOk G p n m   all clauses
 use Prim.Native.Nat.{ℕ, zero, suc, _+_, _*_, _^_}
 use mathlib.Core.Bool.{Bool, true, cond, not, _&&_, _||_}
 use mathlib.Core.List.{List}
@@ -26,7 +29,7 @@ widthsOk v =
     && (ltb (v .n) 2 && ltb (v .z) 2 && ltb (v .c) 2 && ltb (v .v) 2)
     && ltb (v .status) 16
 
--- the clock count has 32 bits; "a held, refill or write-back count above the clock count"
+-- the clock count has 32 bits (row 8: at most 4,294,967,295; D-07); "a held, refill or write-back count above the clock count"
 unfoldable pub countsOk : Counts → Bool
 countsOk k = ltb (k .clocks) (2 ^ 32) && leb (k .held) (k .clocks) && leb (k .refills) (k .clocks) && leb (k .writebacks) (k .clocks)
 
@@ -86,7 +89,7 @@ module _ (G : Geometry) where
       (on && eqb (lineOf G (ln .block)) l && leb (ln .block * G .words + G .words) n)
       (not (ln .dirty) && eqb (ln .block) 0)
 
-  -- each of full and dirty has one bit
+  -- each of full and dirty has one bit (D-07)
   unfoldable pub marksOk : Cache → ℕ → Bool
   marksOk ca l = ltb (getD (ca .full) l 0) 2 && ltb (getD (ca .dirty) l 0) 2
 

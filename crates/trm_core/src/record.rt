@@ -1,6 +1,6 @@
 // The record's scalars: numbers only, so that any bytes are a record and row 5 judges them.
 // Paper: "The record holds phase and count"; "The record also counts finished refills and write-backs".
-// The other scalars are 64 bits wide for speed; row 5 holds each to its own width, and row 4 `size` to the store.
+// All scalars but H and `size` are 64 bits wide, for speed; row 5 holds each to its own width, and row 4 `size` to the store.
 
 // The counts: clocks, held clocks, finished refills and write-backs.
 #[repr(C)]

@@ -1,4 +1,4 @@
-// One clock in code, on the machine record: what the clock does is decided first and done once.
+// The machine record, and a run of clocks in code as its method: turn after turn, a turn being some clocks of a phase or of words.
 // Paper: "Clock by clock".
 // `machine`: the record as callers hold it; `inner`: its methods, and the functions on its parts, shared with the calls.
 pub mod inner;

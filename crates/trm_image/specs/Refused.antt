@@ -1,5 +1,5 @@
--- The refusal of an image: the first fault, as its number and the byte where its record begins; 0 at 0 means none.
--- Paper: "Where calls are turned down", rows 1, 2, 3 and 6; "Records are checked one after another, each down the table, and the first
+-- The refusal of an image: the first fault, as its number and the byte where its record begins; 0 at 0 means none, 4 has no record.
+-- Paper: "Where calls are turned down", rows 1, 2, 3, 4, 6; "Records are checked one after another, each down the table, and the first
 -- fault counts"; "(0 if too long or empty)". Assumes nothing. n is the store's length in words.
 --   faultAt n s before at   the row that the record at `at` fails, the kind before it being `before`, 0 for none
 --   imageFault n s          the whole image

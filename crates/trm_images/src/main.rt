@@ -1,5 +1,5 @@
 // Lists each image of data/ that an argument names, under its name.
-// Paper: "the listing [is] executed and held against this paper"; the cases are made from it by tests/images.
+// Paper: "the others and the listing are executed and held against this paper"; the cases are made from it by tests/images.
 // An argument is a file's name; the last is followed by none.
 fn main() {
     let mut i: usize = 1;

@@ -1,5 +1,5 @@
 -- A listing in the middle of a run: what is still to be written. Terms of inner contracts.
--- Paper: none; no claim rests on them but on `textFrom`, by the contracts of the pieces of trm_listing.
+-- Paper: none. `textFrom` and `Able` are in the contracts of the pieces of trm_listing; on the rest no claim rests.
 -- Assumes nothing.
 --   textFrom p x took is   the lines from x on, and the last line        Able   what every clock of a listing asks
 --   Onward                 clocks are gone, and their lines are in the buffer

@@ -1,5 +1,5 @@
 -- A listing piece by piece: what the first and each next piece puts into the buffer, and what is still to come.
--- Paper: "lines gathered and written in large pieces" is ours; the bytes are `outputOf`. Assumes nothing.
+-- Paper: none; that a listing comes in pieces is ours (D-65). The bytes are `outputOf`. Assumes nothing.
 --   restOf s p st l   what is to be written after the pieces so far        StartHolds, PieceHolds   the contracts
 use Prim.Native.Nat.{ℕ, _-_, _≤_, _<_}
 use mathlib.Core.Path.{_≡_}

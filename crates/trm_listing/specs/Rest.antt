@@ -1,5 +1,5 @@
 -- A listing in the middle: the runs that are left. Terms of inner contracts.
--- Paper: "lines gathered"; none of these need be believed but `pinsLeft`, in the contracts of the pieces.
+-- Paper: none. `pinsLeft`, `pinsAt` and `Stands` are in the contracts of the pieces; on `heldBy` and `Along` no claim rests.
 -- Assumes nothing.
 --   pinsLeft s q   the pins of all clocks that are left        Stands   a listing stands here        Along   it has gone on
 use Prim.Native.Nat.{ℕ, _+_, _*_, _-_, _≤_}

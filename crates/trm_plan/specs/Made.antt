@@ -1,5 +1,5 @@
--- A clock's outcome put together from its result and the parts that are lent; what is known of a last clock in flight.
--- Paper: "5 needs 14 taken, 15, 11 .., LD .. or ST"; phase 4 needs 12 or 13.
+-- A clock's outcome put together from its result and the parts that are lent; what is known of a last clock in phase 5.
+-- Paper: "5 needs 14 taken, 15, 11 with bit 10 set, .. LD from a device, or LD or ST with its block in the line".
 -- Assumes nothing.
 --   made   what a clock leaves and answers        Late w n c rs   of a last clock in phase 5
 use Prim.Native.Nat.{ℕ, _≤_}

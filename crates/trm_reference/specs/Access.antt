@@ -32,12 +32,12 @@ unfoldable pub isMemory : Place → Bool
 isMemory (Device d) = false
 isMemory (Memory a) = true
 
--- the word of memory, "taken mod the store's length"; asked only where a place is memory
+-- the word of memory, "taken mod the store's length"; used only where a place is memory
 unfoldable pub memoryIndex : Place → ℕ
 memoryIndex (Device d) = 0
 memoryIndex (Memory a) = a
 
--- the device; asked only where a place is one
+-- the device; used only where a place is one
 unfoldable pub deviceNumber : Place → ℕ
 deviceNumber (Device d) = d
 deviceNumber (Memory a) = 0

@@ -41,7 +41,7 @@ turnsCacheOff w v = eqb (operation w) 11 && not (isSet (bit 10 w)) && cacheOn v 
 unfoldable pub missCharge : Geometry → Bool → ℕ
 missCharge G evicts = 2 + burst G + cond evicts (burst G) 0
 
--- "LD, ST to memory, cache off: 6, 5"
+-- "LD, ST to memory, cache off": "6, 5"
 unfoldable pub uncachedCharge : ℕ → ℕ
 uncachedCharge w = chargeOf (operation w) + 4
 

@@ -10,7 +10,7 @@ use Rattle.trm_reference.specs.Tables.Interrupts.{interrupts}
 use Rattle.trm_reference.specs.Tables.Histories.{histories}
 use Rattle.trm_reference.specs.Tables.Stalls.{stalls}
 
--- Every starred bench case holds, carried out as a word.
+-- Every starred bench case holds: three by the address or place of a load, the others carried out as words.
 abbrev pub StarredHold : Type 0
 StarredHold = AllHold starred
 

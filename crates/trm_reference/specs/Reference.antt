@@ -78,7 +78,7 @@ module _ (G : Geometry) (w : ℕ) (q : Reference) where
       (access (record { block = targetBlock G w (q .visible) (length (q .memory)); store = isStore w }) ∷ q .history)
       (cond (turnsCacheOff w (q .visible)) (emptying ∷ q .history) (q .history))
 
-  -- the word is carried out; i is this clock's input word; a place that is not of memory has no word there
+  -- the word is carried out; i is this clock's input word; the word of memory is used by LD from memory alone
   unfoldable pub carryOut : ℕ → After Reference Answer
   carryOut i = record {
     state = record {

@@ -1,7 +1,8 @@
 -- What one step of the multiplier or the divider asks of the record, and the registers that it leaves.
 -- Paper: "Phase 1 needs operation 8 or 9"; "1 arithmetic, 1–32"; "for the operation not running, these registers are zero".
 -- Assumes nothing.
---   Steps w r v, Serves w r a b   the word w goes on, r in flight        multiplied, dividedBy   what is in flight after a step
+--   Steps w r v   w may take a step, r being in flight        Serves w r a b   the same in phase 1, A and B being known
+--   Multiplies, Divides   what a step of one of the two asks        multiplied, dividedBy   what is in flight after a step
 use Prim.Native.Nat.{ℕ, _<_}
 use mathlib.Core.Path.{_≡_}
 use mathlib.Core.Logic.{_≢_}
@@ -30,7 +31,7 @@ pub record Serves (w : ℕ) (r : Running) (a b : ℕ) : Type 0 where
   pub first : a ≡ operandA w seen
   pub second : b ≡ operandB w seen
 
--- the same for the multiplier alone, A and B being a and b
+-- what a step of the multiplier asks of r, ready or after count steps, A and B being a and b; no phase but 0 is told apart
 pub record Multiplies (r : Running) (a b : ℕ) : Type 0 where
   pub few : r .count < 32
   pub fresh : r .phase ≡ 0 → r .count ≡ 0
@@ -38,7 +39,7 @@ pub record Multiplies (r : Running) (a b : ℕ) : Type 0 where
   pub remainder : r .phase ≢ 0 → r .remainder ≡ 0
   pub quotient : r .phase ≢ 0 → r .quotient ≡ 0
 
--- and for the divider
+-- the same of the divider
 pub record Divides (r : Running) (a b : ℕ) : Type 0 where
   pub few : r .count < 32
   pub fresh : r .phase ≡ 0 → r .count ≡ 0

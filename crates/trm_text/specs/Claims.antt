@@ -1,4 +1,4 @@
--- What is claimed of the listing's text: the lines of the paper's example, computed.
+-- What is claimed of the listing's text: five lines, computed. Three are the paper's; its whole example is in trm_listing's Examples.
 -- Paper: the example of "Images and the listing program". The value is in proofs/Theorems.antt.
 -- Assumes nothing.
 use mathlib.Core.Path.{_≡_}
@@ -6,7 +6,7 @@ use mathlib.Core.List.{[], _∷_}
 use Rattle.trm_text.specs.declared.inner.lines.Shown.the-variants.{Word, Irq1}
 use Rattle.trm_text.specs.Lines.{lineBytes, endBytes, refusedBytes}
 
--- each line as the paper prints it, by ASCII codes
+-- three lines as the paper prints them, an interrupt's and a refusal's, by ASCII codes
 pub record ExampleHolds : Type 0 where
   -- `34 001 20003 33`
   pub second : lineBytes (record { clock = 34; at = 1; shown = Word 0x20003; took = 33 })

@@ -1,5 +1,5 @@
 -- The sixteen base charges by operation: the clocks of the cheapest form.
--- Paper: the table of clocks; the form named there is one constant table of sixteen.
+-- Paper: the table of clocks; "A constant table of sixteen base charges by operation". The code's own is `BASE_CHARGES`, equal (D-23).
 -- What is added: 1 for 14 taken and for 11 with bit 10 set; 10 for each dirty line that an emptying writes back; 4 for LD and
 -- ST to memory with the cache off; a miss is 12 or 22 in place of the base. Assumes nothing.
 use Prim.Native.Nat.{ℕ}

@@ -1,6 +1,6 @@
-// What the crates above share of words, in reading order; a function here may have a `requires`.
+// What the crates above share of words; a function here may have a `requires`.
 // Paper: conditions 0-15, the address of LD and ST, the base charges by operation.
-// Numbers are u64, as the machine's scalars are.
+// Registers and offsets are u32; flags, conditions, addresses and charges are u64.
 pub mod address;
 pub mod charge;
 pub mod condition;

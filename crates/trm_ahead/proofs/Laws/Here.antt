@@ -1,5 +1,5 @@
 -- The clock where a run stands, from what the code made of it: held, of a word in flight, of a word that begins, of an interrupt.
--- Idea: the stall's and the interrupt's tests are known, and the rest is trm_clock's.
+-- Idea: the stall's and the interrupt's tests are known, and the rest are laws of trm_plan.
 -- Assumes nothing.
 use Prim.Native.Nat.{ℕ}
 use mathlib.Core.Path.{_≡_, refl, sym, ap, _∙_, subst}

@@ -1,6 +1,6 @@
 // Clocks of one phase one after another, held clocks among them: all but the last of a burst, of a wait.
 // Paper: "Each ten is two waits and eight words in rising order"; "4 uncached wait"; "A clock with stall set is held".
-// What such clocks find is found once; the clock that ends the phase is trm_clock's.
+// What such clocks find is found once; the clock that ends the phase is trm_flight's.
 ghost use mathlib.Core.Path.{_≡_};
 ghost use mathlib.Core.Bool.{true, cond};
 ghost use Prim.Native.Nat.{ℕ, _+_, _*_, _≤_, _<_};

@@ -12,7 +12,7 @@ fn upper_half(b: u32) -> u64
     std::num::wrapping_sub_u64(super::sums::biased(b) * 0x8000_0000, 0x4000_0000_0000_0000)
 }
 
-// The product of a bit and a word, chosen and not multiplied: where the bits of A come at random, a branch would be guessed wrong.
+// The product of a bit and a word. Of this `if` the compiler makes a choice without a branch; of the product it made a branch (D-60).
 fn bit_times(bit: u64, x: u64) -> u64
     requires { ⌜ bit < 2 ⌝ }
     ensures { λ r. ⌜ r ≡ bit * x ⌝ }

@@ -1,6 +1,6 @@
 // The first clock of a word, in phase 0, of 8 to 11 and 13: a word of one clock is carried out, any other begins.
 // Paper: the clock table.
-// The other operations, whose second clock may follow at once, are trm_turns'.
+// The first clocks of the other operations are trm_ready's in a run and trm_walk's in a listing.
 ghost use mathlib.Core.Path.{_≡_};
 ghost use lib.ListN.{length};
 ghost use Prim.Native.Nat.{_≤_, _<_};
@@ -47,7 +47,7 @@ pub fn first_arithmetic(
     outcome::goes_on(c, steps::first_step(c, regs, w), 0, 0)
 }
 
-// 11: a jump is due; turning the cache off writes the dirty lines back first; setting the status ends.
+// 11: of a jump the last clock is due; turning the cache off writes the dirty lines back first; else the status is set in this clock.
 pub fn first_control(
     c: Scalars,
     regs: &mut [u32; 16],
@@ -80,7 +80,7 @@ pub fn first_control(
     outcome::enters(c, 2, 1) // the first wait of the first ten
 }
 
-// 13 ST: a device and a hit end.
+// 13 ST: to a device, or where it hits, it is carried out in this clock.
 pub fn first_store(
     c: Scalars,
     regs: &mut [u32; 16],

@@ -1,4 +1,4 @@
-// The last clock of a word in flight: what it moves between memory and the registers, its answer, and the word carried out.
+// The last clock of a word in phase 5: what it moves between memory and the registers, its answer, and the word carried out.
 // Paper: "What a programmer sees changes only in an instruction's last clock; a device is read or written only in that clock".
 // Memory is read before it is written, and the answer is made before the registers change.
 ghost use mathlib.Core.Path.{_≡_};
@@ -74,7 +74,7 @@ fn store_at(
     store[i] = x;
 }
 
-// ST to memory; a device has its word by the answer.
+// ST to memory; to a device nothing is stored here, the answer takes the word out.
 fn store_word(
     c: Scalars,
     regs: &[u32; 16],
@@ -185,7 +185,7 @@ fn last_store(
     outcome::carried(carry::pass(c, regs, w))
 }
 
-// The last clock of a word in flight.
+// The last clock of a word in phase 5.
 pub fn last_clock(
     c: Scalars,
     regs: &mut [u32; 16],

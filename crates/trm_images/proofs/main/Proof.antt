@@ -1,4 +1,5 @@
 -- The proof of trm_images::main.
+-- Invariant: i is at most 1,000. The measure is what is left of it.
 use Prim.Native.Nat.{_-_, _≤_}
 use borrow.Author.Needs.{needs}
 use Rattle.trm_images.proofs.main.Statement.{statement}

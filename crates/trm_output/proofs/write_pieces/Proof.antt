@@ -1,4 +1,5 @@
 -- The proof of trm_output::write_pieces.
+-- Invariant: the listing can go on, and the lent lists keep their lengths. The measure is `leftOf`.
 use Rattle.trm_output.proofs.Laws.Less.{leftOf, less-still}
 use mathlib.Core.Path.{_≡_, refl, sym, _∙_}
 use native.Mathlib.Omega.{arith}

@@ -54,7 +54,7 @@ fn moves_high(w: u32) -> bool
     w / 8 % 2 == 1
 }
 
-// A.
+// The operand A: R.s, the literal, or H.
 pub fn operand_a(c: Scalars, regs: &[u32; 16], w: u32) -> u32
     ensures { λ r. ⌜ r ≡ operandA w (gathered c (now (regs .entry))) ⌝ }
 {

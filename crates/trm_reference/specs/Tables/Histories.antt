@@ -70,7 +70,9 @@ histories =
     -- stored to, then the line's other block, then back again: clean
     ∷ row (judged (loadOf 16 ∷ storeOf 0 ∷ []) 16) (0 ∷ 0 ∷ 0 ∷ [])
     ∷ row (judged (loadOf 0 ∷ loadOf 16 ∷ storeOf 0 ∷ []) 0) (0 ∷ 0 ∷ 0 ∷ [])
+    -- loaded, then the line's other block stored to: dirty, and the first block refills
     ∷ row (judged (storeOf 16 ∷ loadOf 0 ∷ []) 0) (1 ∷ 1 ∷ 1 ∷ [])
+    -- both stored to, then the first loaded again: clean
     ∷ row (judged (loadOf 0 ∷ storeOf 16 ∷ storeOf 0 ∷ []) 0) (0 ∷ 0 ∷ 0 ∷ [])
     -- different lines do not disturb each other
     ∷ row (judged (loadOf 1 ∷ storeOf 0 ∷ []) 0) (0 ∷ 1 ∷ 1 ∷ [])

@@ -1,4 +1,4 @@
--- The starred bench cases, each carried out as a word of the reference machine.
+-- The starred bench cases: those of addresses by the address or place of a load, the others carried out as words of the machine.
 -- Paper: "Bench cases", the starred ones, in its order.
 -- Assumes nothing.
 use Prim.Native.Nat.{ℕ, _+_, _-_, _^_}

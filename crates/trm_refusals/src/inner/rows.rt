@@ -1,4 +1,4 @@
-// The rows of the table but for row 5, one function each.
+// Rows 3, 4 and 8, and rows 6 and 7 of a run, one function each; the clock's row 6, the copy's row 7 and row 9 are in `calls`.
 // Paper: "Where calls are turned down", rows 3, 4, 6, 7 and 8.
 // The test of program words ends at the first that fails it.
 ghost use mathlib.Core.Path.{_≡_};

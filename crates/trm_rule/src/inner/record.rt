@@ -405,7 +405,7 @@ fn line_ok(
     b == 0
 }
 
-// Both.
+// One line of the cache: its marks, and what a full and an empty line may be.
 fn good_line(
     on: bool,
     n: u64,

@@ -20,7 +20,7 @@ use trm_plan::inner::outcome::Clocked;
 use trm_reading::inner::reading;
 use trm_word::inner::address::Place;
 
-// 12 LD: past the cache the first wait; a miss looks; a hit, like a device, is due.
+// 12 LD: past the cache the first wait; of a miss the looking clock; of a hit or a device the last clock is due.
 fn first_load(
     c: Scalars,
     regs: &mut [u32; 16],

@@ -1,6 +1,6 @@
 // A word in flight: the clocks of its phase that cannot be its last, one after another; and any one clock.
-// Paper: "1 arithmetic, 1-32; 2 write-back, 0-9 ..; 3 refill, 0-9; 4 uncached wait, 1-5; 5 last clock".
-// Each is one match on the phase over what trm_ahead and trm_clock do.
+// Paper: "1 arithmetic, 1-32; 2 write-back, 0-9 ..; 3 refill, 0-9; 4 uncached wait, 1-5 for LD, 1-4 for ST; 5 last clock due, 0".
+// Each is one match on the phase: the first over trm_ahead, the second over trm_flight and, in phase 5, trm_clock.
 ghost use mathlib.Core.Path.{_≡_};
 ghost use mathlib.Core.Logic.{_≢_};
 ghost use lib.ListN.{length};

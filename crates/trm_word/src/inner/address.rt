@@ -11,7 +11,7 @@ pub enum Place {
     Memory(u64),
 }
 
-// The base: register 7 stands for zero here, and is not read.
+// The base: for s = 7 it is zero, whatever register 7 holds.
 pub fn base_of(s: u32, register: u32) -> u32
     ensures { λ r. ⌜ r ≡ baseOf s register ⌝ }
 {

@@ -1,6 +1,6 @@
 // The constant table of sixteen base charges by operation.
-// Paper: "33: 32 steps, then the result"; the form named there is one table, read by the engine and by the charge.
-// The same list is in specs/, and the two are proved equal.
+// Paper: "A constant table of sixteen base charges by operation, read by the clock engine and the charge definition".
+// A definition cannot read it: the same list is in specs/, and the two are proved equal (D-23).
 ghost use mathlib.Core.Path.{_≡_};
 ghost use Prim.Native.Nat.{_<_};
 ghost use Rattle.trm_word.specs.Charge.{charges, chargeOf};

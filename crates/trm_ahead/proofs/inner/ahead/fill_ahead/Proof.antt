@@ -1,4 +1,5 @@
 -- The proof of trm_ahead::inner::ahead::fill_ahead.
+-- Invariant: the run has gone on in phase 3, quietly, to here. The measure is the lines left.
 use Rattle.trm_ahead.proofs.Laws.Ahead.{On, on-none, good-on, fill-block, fills, fill-on}
 use native.Mathlib.Omega.{arith}
 use native.Mathlib.Nat.{mod-lt}

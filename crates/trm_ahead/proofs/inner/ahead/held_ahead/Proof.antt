@@ -1,4 +1,5 @@
 -- The proof of trm_ahead::inner::ahead::held_ahead.
+-- Invariant: the run has gone on in its phase, quietly, to here, whatever its word. The measure is the lines left.
 use Rattle.trm_ahead.proofs.Laws.Ahead.{past-held}
 use borrow.Author.Tests.{not-true}
 use Rattle.trm_ahead.proofs.Laws.Ahead.{On, on-none, good-on, held-on}

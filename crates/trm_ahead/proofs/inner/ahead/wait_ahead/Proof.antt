@@ -1,4 +1,5 @@
 -- The proof of trm_ahead::inner::ahead::wait_ahead.
+-- Invariant: the run has gone on in phase 4, quietly, to here. The measure is the lines left.
 use Rattle.trm_plan.proofs.Laws.Facts.{few-clocks, charge-small}
 use Rattle.trm_plan.proofs.Laws.Flight.{wait-more}
 use Rattle.trm_ahead.proofs.Laws.Ahead.{wait-facts}

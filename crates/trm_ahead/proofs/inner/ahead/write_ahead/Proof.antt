@@ -1,4 +1,5 @@
 -- The proof of trm_ahead::inner::ahead::write_ahead.
+-- Invariant: the run has gone on in phase 2, quietly, to here. The measure is the lines left.
 use Rattle.trm_ahead.proofs.Laws.Ahead.{long-on}
 use Rattle.trm_ahead.proofs.Laws.Ahead.{On, on-none, good-on, clears-on, line-on, writes, write-on}
 use native.Mathlib.Omega.{arith}

@@ -1,4 +1,5 @@
 -- The proof of trm_ahead::inner::serial::steps_ahead.
+-- Invariant: the run has gone on k clocks in phase 1, at most k of them held. The measure is the lines less k.
 use Rattle.trm_ahead.proofs.Laws.Ahead.{serial-held}
 use Rattle.trm_ahead.proofs.Laws.Ahead.{On, served, serial-begins, serial-on, serves, serial-room}
 use native.Mathlib.Omega.{arith}

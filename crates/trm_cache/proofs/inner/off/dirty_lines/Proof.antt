@@ -1,4 +1,5 @@
 -- The proof of trm_cache::inner::off::dirty_lines.
+-- Invariant: the dirty lines below i are counted, and the first of them is known. The measure is the lines left.
 use Prim.Native.Nat.{_-_}
 use native.Mathlib.Omega.{arith}
 use Rattle.trm_cache.specs.Cache.{cache}

@@ -1,4 +1,5 @@
 -- The proof of trm_cache::inner::off::empty_all.
+-- Invariant: the lines below i are emptied. The measure is the lines left.
 use Prim.Native.Nat.{_-_, _≤_}
 use mathlib.Core.Path.{_≡_}
 use native.Mathlib.Omega.{arith}

@@ -1,4 +1,5 @@
 -- The proof of trm_engine::inner::clear::clear_words.
+-- Invariant: the places below i hold 0. The measure is the places left.
 use native.Mathlib.Omega.{arith}
 use Prim.Native.Nat.{_-_}
 use lib.ListN.{length, length-set}

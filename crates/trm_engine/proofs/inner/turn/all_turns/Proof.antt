@@ -1,4 +1,5 @@
 -- The proof of trm_engine::inner::turn::all_turns.
+-- Invariant: each run that stood at the entry stands here now. The measure is the lines left.
 use borrow.Author.Needs.{needs}
 use mathlib.Core.Path.{sym, _∙_}
 use Prim.Native.Nat.{_-_}

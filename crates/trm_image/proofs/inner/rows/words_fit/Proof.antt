@@ -1,4 +1,5 @@
 -- The proof of trm_image::inner::rows::words_fit.
+-- Invariant: the words left fit exactly if all do. The measure is the words left.
 use Rattle.trm_image.proofs.Laws.Words.{fits-more, fits-bad, fits-end, fits-all}
 use mathlib.Core.Path.{_≡_, sym, _∙_, subst}
 use Prim.Native.Nat.{_+_, _*_, _-_, _≤_, _<_}

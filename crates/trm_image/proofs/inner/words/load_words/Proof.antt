@@ -1,4 +1,5 @@
 -- The proof of trm_image::inner::words::load_words.
+-- Invariant: the first i words are loaded, zeros where the image has none. The measure is the words left.
 use native.Mathlib.Omega.{arith}
 use mathlib.Core.Path.{_≡_, refl}
 use mathlib.Core.List.{_++_}

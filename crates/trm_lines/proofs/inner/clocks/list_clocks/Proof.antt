@@ -1,4 +1,5 @@
 -- The proof of trm_lines::inner::clocks::list_clocks.
+-- Invariant: the listing has gone onward, line by line. The measure is the clocks left of the run.
 use native.Mathlib.Omega.{arith}
 use Rattle.trm_cache.specs.Cache.{cache}
 use Rattle.trm_lines.specs.Onward.{lentOf, Onward}

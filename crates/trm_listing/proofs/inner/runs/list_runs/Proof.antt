@@ -1,4 +1,5 @@
 -- The proof of trm_listing::inner::runs::list_runs.
+-- Invariant: the listing has gone along, and clocks of a run are left only where the buffer is full. The measure is the bytes left.
 use mathlib.Core.Path.{ap, _∙_}
 use Rattle.trm_listing.specs.declared.inner.runs.Place.{Place}
 use mathlib.Core.Logic.{_≢_}

@@ -1,4 +1,5 @@
 -- The proof of trm_observe::inner::memory::copy.
+-- Invariant: the first i words are copied. The measure is the words left.
 use Prim.Native.Nat.{_-_}
 use lib.ListN.{length}
 use mathlib.Core.Path.{sym, _∙_}

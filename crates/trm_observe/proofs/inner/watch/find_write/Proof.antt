@@ -1,4 +1,5 @@
 -- The proof of trm_observe::inner::watch::find_write.
+-- Invariant: none of the first i bytes shows the device written. The measure is the bytes left.
 use Prim.Native.Nat.{_-_}
 use lib.ListN.{length}
 use mathlib.Core.Path.{sym, _∙_}

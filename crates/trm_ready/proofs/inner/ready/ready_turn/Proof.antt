@@ -1,4 +1,5 @@
 -- The proof of trm_ready::inner::ready::ready_turn.
+-- Invariant: the run has turned from its start to here, and nothing is in flight. The measure is the lines left.
 use Rattle.trm_ahead.proofs.Laws.Next.{turned-from, at-from, long-from, unraised, past-raised}
 use Prim.Native.Nat.{_-_, _≤_}
 use mathlib.Core.Path.{_≡_, refl, ap}

@@ -1,5 +1,5 @@
 -- The proof of trm_refusals::inner::rows::all_at_most_bytes.
--- The bytes passed by are in the limit if the largest of them is.
+-- Invariant: the largest byte so far and the bytes left are in the limit exactly if all are. The measure is the bytes left.
 use native.Mathlib.Omega.{arith}
 use mathlib.Core.Path.{_≡_, sym, _∙_}
 use mathlib.Core.Bool.{_&&_}

@@ -1,4 +1,5 @@
 -- The proof of trm_refusals::inner::rows::all_at_most_words.
+-- Invariant: the words left are in the limit exactly if all are. The measure is the words left.
 use borrow.Author.Needs.{needs}
 use native.Mathlib.Omega.{arith}
 use mathlib.Core.Path.{_≡_, refl, sym, _∙_}

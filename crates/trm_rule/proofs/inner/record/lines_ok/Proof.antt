@@ -1,4 +1,5 @@
 -- The proof of trm_rule::inner::record::lines_ok.
+-- Invariant: the lines below l are good. The measure is the lines left.
 use borrow.Author.Tests.{not-true, not-false}
 use native.Mathlib.Omega.{arith}
 use mathlib.Core.Path.{_≡_, sym, _∙_}

@@ -1,4 +1,5 @@
 -- The proof of trm_text::inner::lines::put_text.
+-- Invariant: the first i bytes of the text are written. The measure is the bytes left.
 use native.Mathlib.Omega.{arith}
 use lib.ListN.{length, take}
 use Prim.Native.Nat.{_+_, _-_, _≤_}

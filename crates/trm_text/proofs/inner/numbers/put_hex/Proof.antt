@@ -1,4 +1,5 @@
 -- The proof of trm_text::inner::numbers::put_hex.
+-- Invariant: the digits from place i on are written, and rest is the number without them. The measure is i.
 use Rattle.trm_text.specs.Numbers.{hex}
 use mathlib.Core.Path.{refl}
 use native.Mathlib.Omega.{arith}

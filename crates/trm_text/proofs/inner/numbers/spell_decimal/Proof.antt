@@ -1,4 +1,5 @@
 -- The proof of trm_text::inner::numbers::spell_decimal.
+-- Invariant: the digits from place i on are written, and rest is the number without them. The measure is i.
 use Prim.Native.Nat.{_+_, _-_}
 use lib.ListN.{length-set}
 use native.Mathlib.Omega.{arith}
