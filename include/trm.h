@@ -10,9 +10,11 @@
  * What a caller must guarantee, for every function here:
  *  - a pointer with a length L points to L elements of its type, aligned, that may be read (and written, where it is not const) until the
  *    call returns; with L = 0 it is not looked at and may be NULL; no length is above PTRDIFF_MAX bytes;
+ *  - the pointer to a lent record is not NULL: it points to one trm_machine, aligned, of any bytes;
  *  - what may be written (store, bytes, words, buffer, a lent record) overlaps nothing else that is passed to the same call, and no
  *    other thread touches what is passed while the call lasts. What is only read may overlap.
- * Nothing is kept between calls: no global state, no allocation, no file. A call needs some kilobytes of stack.
+ * Nothing is kept between calls: no global state, no allocation, no file. A call needs some kilobytes of stack. The program may change
+ * between two calls: an instruction in flight is then judged by the new word (5). Structs have padding: compare them field by field.
  */
 #ifndef TRM_H
 #define TRM_H
@@ -65,6 +67,39 @@ typedef struct trm_machine {
     uint16_t block[16];
     uint32_t words[128];  /* the lines' words, eight to a line */
 } trm_machine;
+
+/* Operations 0-10 and conditions 0-15, by number. */
+enum {
+    TRM_MOV = 0,
+    TRM_NOT = 1,
+    TRM_ADD = 2,
+    TRM_SUB = 3,
+    TRM_AND = 4,
+    TRM_BIC = 5,
+    TRM_OR = 6,
+    TRM_XOR = 7,
+    TRM_MUL = 8,
+    TRM_DIV = 9,
+    TRM_ROR = 10
+};
+enum {
+    TRM_IF_Z = 0,
+    TRM_IF_NOT_Z = 1,
+    TRM_IF_C = 2,
+    TRM_IF_NOT_C = 3,
+    TRM_IF_N = 4,
+    TRM_IF_NOT_N = 5,
+    TRM_IF_V = 6,
+    TRM_IF_NOT_V = 7,
+    TRM_IF_C_AND_NOT_Z = 8,
+    TRM_UNLESS_C_AND_NOT_Z = 9,
+    TRM_IF_N_IS_V = 10,
+    TRM_IF_N_IS_NOT_V = 11,
+    TRM_IF_N_IS_V_AND_NOT_Z = 12,
+    TRM_UNLESS_N_IS_V_AND_NOT_Z = 13,
+    TRM_ALWAYS = 14,
+    TRM_NEVER = 15
+};
 
 /* An instruction as plain numbers: its form, and a field for each part; a field that the form does not have is 0. */
 enum {
@@ -136,7 +171,7 @@ typedef struct trm_encode_answer {
 
 typedef struct trm_image_answer {
     uint32_t number;
-    uint64_t at; /* the byte where the record at fault begins; 0 for an image too long or empty, and for none */
+    uint64_t at; /* the byte where the record at fault begins; 0 for an image too long or empty, for 4, and for none */
 } trm_image_answer;
 
 /* The bytes of a record, and its version: a program that compares them with sizeof(trm_machine) and TRM_RECORD_VERSION knows that its
@@ -182,7 +217,8 @@ trm_decode_answer trm_decode(uint32_t word);
  * the form does not have and that is not 0). */
 trm_encode_answer trm_encode(trm_instruction instruction);
 
-/* Whether an image can be run with a store of so many words: its first fault. Refused: 1, 2, 3, 4, 6. */
+/* Whether an image can be run with a store of so many words: its first fault, record after record. Refused: 1, 2, 3, 6; and 4, for a
+ * length that no store has, where no record is at fault. */
 trm_image_answer trm_image_check(const uint8_t *image, size_t image_bytes, size_t store_words);
 
 #ifdef __cplusplus

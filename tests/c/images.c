@@ -1,0 +1,113 @@
+/*
+ * The check of an image: the paper's example, cut and spoiled, and the records' order and lengths.
+ * Paper: "Images and the listing program"; rows 1, 2, 3, 4 and 6 of the refusals, with the record's offset.
+ * Called: by edges.c.
+ */
+#include <stdio.h>
+#include <string.h>
+
+#include "edges.h"
+
+/* Three words, and a run of 40 clocks from byte 18 on. */
+static const uint8_t PAPER[33] = {0x0C, 0, 0, 0, 1, 0, 5, 0, 0, 0, 3, 0, 2, 0, 0xFF, 0xBB, 3, 0, 9, 0, 0, 0, 3, 0, 0x28};
+
+static void expect_image(const uint8_t *image, size_t bytes, size_t store, uint32_t number, uint64_t at, const char *what, size_t where)
+{
+    trm_image_answer a = trm_image_check(image, bytes, store);
+    hold(a.number == number && a.at == at, what, where);
+    if (a.number != number || a.at != at)
+        printf("  gave %u at %llu\n", (unsigned)a.number, (unsigned long long)a.at);
+}
+
+static void test_cut(void)
+{
+    expect_image(NULL, 0, 2048, TRM_REFUSED_KIND, 0, "an empty image", 0);
+    expect_image(NULL, 0, 0, TRM_REFUSED_KIND, 0, "an empty image, no store", 0);
+    for (size_t bytes = 1; bytes <= sizeof PAPER; bytes++) {
+        int whole = bytes == 18 || bytes == 33;
+        expect_image(PAPER, bytes, 2048, whole ? 0 : TRM_REFUSED_IMAGE, whole || bytes < 18 ? 0 : 18, "an image of bytes", bytes);
+    }
+}
+
+/* One byte of the paper's image is another: which refusal, in the record at which byte? */
+static void test_spoiled(void)
+{
+    static const struct {
+        uint8_t at, byte;
+        uint32_t number;
+        uint64_t record;
+    } rows[] = {
+        {0, 0, 1, 0},     {0, 11, 1, 0},   {0, 13, 1, 0},    {3, 1, 1, 0},   /* lengths of the program */
+        {4, 0, 2, 0},     {4, 2, 2, 0},    {4, 4, 2, 0},     {5, 1, 2, 0},   /* its kind */
+        {8, 4, 3, 0},     {16, 4, 3, 0},   {17, 1, 3, 0},                    /* its words */
+        {18, 8, 1, 18},   {18, 10, 1, 18}, {21, 255, 1, 18},                 /* lengths of the run */
+        {22, 1, 1, 18},   {22, 4, 2, 18},  {23, 1, 2, 18},                   /* its kind; kind 1 cannot have nine bytes */
+        {24, 0, 1, 18},   {26, 1, 1, 18},  {27, 1, 1, 18},   {25, 255, 0, 0}, /* its count */
+        {28, 8, 6, 18},   {28, 255, 6, 18}, {28, 7, 0, 0},   {32, 255, 0, 0}, /* its line byte and input word */
+    };
+    for (size_t i = 0; i < sizeof rows / sizeof *rows; i++) {
+        uint8_t image[sizeof PAPER];
+        memcpy(image, PAPER, sizeof image);
+        image[rows[i].at] = rows[i].byte;
+        expect_image(image, sizeof image, 2048, rows[i].number, rows[i].record, "a spoiled image, row", i);
+    }
+}
+
+/* A record of zeros is put behind the others, a run with a count of 1; gives where the next begins. */
+static size_t put(uint8_t *image, size_t at, uint8_t kind, size_t length)
+{
+    memset(image + at, 0, 6 + length);
+    image[at] = (uint8_t)length;
+    image[at + 1] = (uint8_t)(length >> 8);
+    image[at + 4] = kind;
+    if (kind == 3)
+        image[at + 6] = 1;
+    return at + 6 + length;
+}
+
+/* Records of these kinds and lengths, with a store of 64 words. */
+static void test_records(void)
+{
+    static const struct {
+        uint8_t kinds[3];
+        size_t lengths[3];
+        uint32_t number;
+        uint64_t at;
+    } rows[] = {
+        {{1, 2, 3}, {4, 256, 9}, 0, 0},   {{1, 2, 3}, {4, 260, 9}, 1, 10},  {{1, 2, 3}, {4, 254, 9}, 1, 10},
+        {{1, 2, 3}, {4, 0, 9}, 0, 0},     {{1, 3, 3}, {4, 9, 9}, 0, 0},     {{1, 2, 2}, {4, 8, 8}, 2, 24},
+        {{1, 3, 2}, {4, 9, 8}, 2, 25},    {{1, 1, 3}, {4, 4, 9}, 2, 10},    {{2, 1, 3}, {8, 4, 9}, 2, 0},
+        {{3, 1, 3}, {9, 4, 9}, 2, 0},     {{1, 3, 1}, {4, 9, 4}, 2, 25},    {{1, 2, 3}, {16384, 0, 9}, 0, 0},
+        {{1, 2, 3}, {16388, 0, 9}, 1, 0}, {{1, 2, 3}, {4, 256, 8}, 1, 272}, {{1, 2, 4}, {4, 256, 9}, 2, 272},
+    };
+    static uint8_t image[20000];
+    for (size_t i = 0; i < sizeof rows / sizeof *rows; i++) {
+        size_t bytes = 0;
+        for (int k = 0; k < 3; k++)
+            bytes = put(image, bytes, rows[i].kinds[k], rows[i].lengths[k]);
+        expect_image(image, bytes, 64, rows[i].number, rows[i].at, "an image of three records, row", i);
+    }
+}
+
+static void test_limits(void)
+{
+    static uint8_t zeros[65537];
+    size_t accepted = 0, refused = 0;
+    for (size_t words = 0; words <= 65536; words++) {
+        trm_image_answer a = trm_image_check(PAPER, sizeof PAPER, words);
+        accepted += a.number == TRM_ACCEPTED && a.at == 0;
+        refused += a.number == TRM_REFUSED_STORE && a.at == 0;
+    }
+    hold(accepted == 10 && refused == 65537 - 10, "an image with every length of store: accepted", accepted);
+    expect_image(PAPER, sizeof PAPER, SIZE_MAX, TRM_REFUSED_STORE, 0, "the largest number as a store", 0);
+    expect_image(zeros, 65537, 2048, TRM_REFUSED_IMAGE, 0, "65,537 bytes", 0);
+    expect_image(zeros, 65536, 2048, TRM_REFUSED_KIND, 0, "65,536 bytes of 0", 0);
+}
+
+void test_images(void)
+{
+    test_cut();
+    test_spoiled();
+    test_records();
+    test_limits();
+}
