@@ -2,9 +2,12 @@
 -- Paper: "Where calls are turned down"; "The clock call takes the record and returns it". Assumes nothing.
 --   ResetNumbered, ClockNumbered, RunNumbered, LookNumbered, CopyNumbered, WatchNumbered, ImageNumbered   a call's promise, r its result
 --   withRecord   the lent clock's answer with its record        valueOf   a sighting as the watch returns it
-use Prim.Native.Nat.{ℕ}
+use Prim.Native.Nat.{ℕ, _+_}
 use mathlib.Core.Path.{_≡_}
+use mathlib.Core.Bool.{cond}
 use mathlib.Core.List.{List}
+use lib.ListN.{length, take, drop}
+use lib.Dec.{ltb}
 use Rattle.trm_reference.specs.Geometry.{paperGeometry}
 use Rattle.trm_reference.specs.Access.{Answer}
 use Rattle.trm_reference.specs.Trace.{After}
@@ -19,6 +22,7 @@ use Rattle.trm_engine.specs.Machine.{recordOf, lent}
 use Rattle.trm_calls.specs.Outcome.{pins, resetGives, clockGives, runGives}
 use Rattle.trm_inspect.specs.Observed.{lookGives, copyGives}
 use Rattle.trm_image.specs.Refused.{imageFault}
+use Rattle.trm_image.specs.Records.{payloadAt}
 use Rattle.trm.specs.declared.answer.ResetAnswer.{ResetAnswer}
 use Rattle.trm.specs.declared.answer.ClockAnswer.{ClockAnswer}
 use Rattle.trm.specs.declared.answer.LentAnswer.{LentAnswer}
@@ -26,6 +30,7 @@ use Rattle.trm.specs.declared.answer.RunAnswer.{RunAnswer}
 use Rattle.trm.specs.declared.answer.LookAnswer.{LookAnswer}
 use Rattle.trm.specs.declared.answer.WatchAnswer.{WatchAnswer}
 use Rattle.trm.specs.declared.image.ImageAnswer.{ImageAnswer}
+use Rattle.trm.specs.declared.image.PartAnswer.{PartAnswer}
 
 -- what is returned and left, put together
 abbrev pub clocked : ClockAnswer → List ℕ → After Lent Answer
@@ -76,3 +81,13 @@ pub record WatchNumbered (bytes : List ℕ) (device : ℕ) (r : WatchAnswer) : T
 pub record ImageNumbered (n : ℕ) (image : List ℕ) (r : ImageAnswer) : Type 0 where
   pub number : r .number ≡ imageFault n image .number
   pub at : r .at ≡ imageFault n image .at
+
+-- where the payload of the record at `at` begins: after its six bytes, or at the image's end if that is nearer
+abbrev pub payloadStart : List ℕ → ℕ → ℕ
+payloadStart s at = cond (ltb (length s) (at + 6)) (length s) (at + 6)
+
+-- the part is the payload
+pub record PayloadPart (s : List ℕ) (at : ℕ) (r : PartAnswer) : Type 0 where
+  pub start : r .start ≡ payloadStart s at
+  pub bytes : r .length ≡ length (payloadAt s at)
+  pub part : take (r .length) (drop (r .start) s) ≡ payloadAt s at
