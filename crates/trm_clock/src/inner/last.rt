@@ -13,7 +13,7 @@ ghost use Rattle.trm_reference.specs.Charge.{turnsCacheOff};
 ghost use Rattle.trm_cache.specs.Cache.{cache, allEmptied};
 ghost use Rattle.trm_core.specs.Record.{gathered, whole};
 ghost use Rattle.trm_core.specs.Clock.{cacheAfter, storeAfter, finish};
-ghost use Rattle.trm_plan.specs.Plan.{Good};
+ghost use Rattle.trm_plan.specs.Good.{Good};
 ghost use Rattle.trm_plan.specs.Made.{Late, made};
 use trm_cache::inner::lines;
 use trm_cache::inner::off;

@@ -28,7 +28,7 @@ use Rattle.trm_core.proofs.Laws.Fit.{Fit, fit, below-all, line-in}
 use Rattle.trm_core.proofs.Laws.Kind.{kindOf, kind-is, uncached, is-of, waits-are}
 use Rattle.trm_core.proofs.Laws.Rule.{LineFits, line-from, CountsFit, counts-from, Registers, registers-from, widths-from, phase-from}
 use Rattle.trm_core.proofs.Laws.Rule.{Phase, ready, arithmetic, writeBack, clearingOff, refill, waiting, due}
-use Rattle.trm_plan.specs.Plan.{Good}
+use Rattle.trm_plan.specs.Good.{Good}
 
 pub paper-ok : geometryOk paperGeometry ≡ true
 unfolding geometryOk oneOf

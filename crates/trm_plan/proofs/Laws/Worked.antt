@@ -18,7 +18,7 @@ use Rattle.trm_core.specs.declared.record.Scalars.{Scalars}
 use Rattle.trm_core.specs.Record.{Lent, gathered, whole, advanced, ended}
 use Rattle.trm_core.specs.Clock.{Moved, moved, quiet, isLast, finish, worked, unheld}
 use Rattle.trm_core.proofs.Laws.Table.{worked-last, worked-on}
-use Rattle.trm_plan.specs.Plan.{Does}
+use Rattle.trm_plan.proofs.Plan.{Does}
 use Rattle.trm_plan.specs.declared.inner.outcome.Clocked.{Clocked}
 use Rattle.trm_plan.specs.Made.{made}
 
