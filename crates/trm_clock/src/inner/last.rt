@@ -62,7 +62,7 @@ fn store_at(
     ensures { λ _. ⌜ (cache (now (full .entry)) (now (dirty .exit)) (now (block .entry)) (now (words .exit))
         ≡ cacheAfter paperGeometry w (length (now (store .entry))) (gathered c (now (regs .entry)))
         (cache (now (full .entry)) (now (dirty .entry)) (now (block .entry)) (now (words .entry))))
-        × (now (store .exit) ≡ storeAfter paperGeometry w (length (now (store .entry))) (gathered c (now (regs .entry))) (now
+        × (now (store .exit) ≡ storeAfter w (length (now (store .entry))) (gathered c (now (regs .entry))) (now
         (store .entry))) ⌝ }
 {
     let x = reading::stored_word(c, regs, w);
@@ -89,7 +89,7 @@ fn store_word(
     ensures { λ _. ⌜ (cache (now (full .entry)) (now (dirty .exit)) (now (block .entry)) (now (words .exit))
         ≡ cacheAfter paperGeometry w (length (now (store .entry))) (gathered c (now (regs .entry)))
         (cache (now (full .entry)) (now (dirty .entry)) (now (block .entry)) (now (words .entry))))
-        × (now (store .exit) ≡ storeAfter paperGeometry w (length (now (store .entry))) (gathered c (now (regs .entry))) (now
+        × (now (store .exit) ≡ storeAfter w (length (now (store .entry))) (gathered c (now (regs .entry))) (now
         (store .entry))) ⌝ }
 {
     let place = reading::place_of_word(c, regs, w, store.len() as u64);
