@@ -7,6 +7,7 @@ mod words;
 use loads::{loads, Load};
 use std::hint::black_box;
 use std::time::Instant;
+use trm::raw;
 
 const CLOCKS: usize = 65536;
 const WORDS: usize = 2048;
@@ -47,9 +48,9 @@ fn runs(turns: usize, load: &Load) {
     let mut others = answers.clone();
     let library = || {
         let mut store = vec![0; WORDS];
-        let machine = library::reset(&store).machine;
+        let machine = raw::reset(&store).machine;
         timed(CLOCKS, || {
-            let answer = library::run(&machine, &load.program, &mut store, &lines, &inputs, &mut answers.0, &mut answers.1);
+            let answer = raw::run(&machine, &load.program, &mut store, &lines, &inputs, &mut answers.0, &mut answers.1);
             assert_eq!(answer.number, 0);
         })
     };
@@ -67,10 +68,10 @@ fn runs(turns: usize, load: &Load) {
 fn clocks(turns: usize, load: &Load) {
     let library = || {
         let mut store = vec![0; WORDS];
-        let mut machine = library::reset(&store).machine;
+        let mut machine = raw::reset(&store).machine;
         timed(CALLS, || {
             for _ in 0..CALLS {
-                machine = library::clock(&machine, &load.program, &mut store, load.line, 1).machine;
+                machine = raw::clock_value(&machine, &load.program, &mut store, load.line, 1).machine;
             }
             assert_eq!(machine.clocks as usize, CALLS);
         })
@@ -90,10 +91,10 @@ fn clocks(turns: usize, load: &Load) {
 fn lent_clocks(turns: usize, load: &Load) {
     let library = || {
         let mut store = vec![0; WORDS];
-        let mut machine = library::reset(&store).machine;
+        let mut machine = raw::reset(&store).machine;
         timed(CALLS, || {
             for _ in 0..CALLS {
-                black_box(library::clock_lent(&mut machine, &load.program, &mut store, load.line, 1));
+                black_box(raw::clock(&mut machine, &load.program, &mut store, load.line, 1));
             }
             assert_eq!(machine.clocks as usize, CALLS);
         })
@@ -112,12 +113,12 @@ fn lent_clocks(turns: usize, load: &Load) {
 
 fn looks(turns: usize) {
     let (program, store) = (vec![0; 12], vec![7; WORDS]);
-    let machine = library::reset(&store).machine;
+    let machine = raw::reset(&store).machine;
     let record = simulator::reset(&store).unwrap();
     let library = || {
         timed(CALLS, || {
             for address in 0..CALLS as u32 {
-                black_box(library::look(&machine, &program, &store, address).word);
+                black_box(raw::look(&machine, &program, &store, address).word);
             }
         })
     };
@@ -134,7 +135,7 @@ fn looks(turns: usize) {
 /// 4,096 words, the first of them above 3FFFFH, against 4,096 good ones: a run of no clock.
 fn early_exit(turns: usize) {
     let mut store = vec![0; WORDS];
-    let machine = library::reset(&store).machine;
+    let machine = raw::reset(&store).machine;
     let good = vec![0x3FFFF; 4096];
     let mut spoiled = good.clone();
     spoiled[0] = 0x40000;
@@ -143,7 +144,7 @@ fn early_exit(turns: usize) {
         for (at, (program, number)) in [(&good, 0), (&spoiled, 3)].into_iter().enumerate() {
             let time = timed(CALLS, || {
                 for _ in 0..CALLS {
-                    let answer = library::run(&machine, program, &mut store, &[], &[], &mut [], &mut []);
+                    let answer = raw::run(&machine, program, &mut store, &[], &[], &mut [], &mut []);
                     assert_eq!(black_box(answer.number), number);
                 }
             });

@@ -122,9 +122,9 @@ def record_with(**fields):
     return record
 
 
-def flying(bits, phase, count, line=(0, 0, 0), registers=(0, 0, 0)):
-    """Status, phase and count; full, dirty and block of line 0; product, remainder, quotient. R0 is 3 and R1 FFC0H."""
-    full, dirty, block = ([x] + [0] * 15 for x in line)
+def flying(bits, phase, count, line=(0, 0, 0), registers=(0, 0, 0), at=0):
+    """Status, phase and count; full, dirty and block of a line; product, remainder, quotient. R0 is 3 and R1 FFC0H."""
+    full, dirty, block = ([0] * at + [x] + [0] * (15 - at) for x in line)
     product, remainder, quotient = registers
     return record_with(status=bits, phase=phase, count=count, full=full, dirty=dirty, block=block, product=product,
                        remainder=remainder, quotient=quotient, regs=[3, 0xFFC0] + [0] * 14)
@@ -175,10 +175,16 @@ def phase_cases():
     yield clocked(ld(0, 7, 128), flying(8, 2, 0, (1, 0, 0))), 'phase 2, the line clean'
     yield clocked(ld(0, 7, 128), flying(8, 2, 0, (1, 1, 16))), 'phase 2, its own block in the line'
     yield clocked(ld(0, 7, 128), flying(8, 2, 10, (1, 1, 0))), 'phase 2, count 10'
+    yield clocked(ld(0, 7, 128), flying(8, 2, 0)), 'phase 2, the line empty'
+    yield clocked(ld(0, 1, 0), flying(8, 2, 0, (1, 1, 16))), 'phase 2, LD from device 0, line 0 dirty'
+    yield clocked(ld(0, 1, 63), flying(8, 2, 0, (1, 1, 15), at=15)), 'phase 2, LD from device 63, line 15 dirty'
+    yield clocked(st(0, 7, 128), flying(8, 2, 0, (1, 1, 16))), 'phase 2, ST, its own block in the line'
     yield clocked(off, flying(8, 2, 0, (1, 0, 0))), 'phase 2, clearing bit 3 with no line dirty'
     yield clocked(status(8), flying(8, 2, 0, (1, 1, 0))), 'phase 2, bit 3 not cleared'
     yield clocked(ld(0, 7, 128), flying(8, 2, 9, (1, 1, 0))), 'phase 2, count 9, LD'
+    yield clocked(st(0, 7, 128), flying(8, 2, 9, (1, 1, 0))), 'phase 2, count 9, ST'
     yield clocked(off, flying(8, 2, 9, (1, 1, 0))), 'phase 2, count 9, clearing bit 3'
+    yield clocked(off, flying(8, 2, 9, (1, 1, 15), at=15)), 'phase 2, count 9, clearing bit 3 with line 15 dirty'
     yield clocked(ld(0, 7, 128), flying(8, 3, 0, (1, 0, 0))), 'phase 3, the line full'
     yield clocked(ld(0, 7, 128), flying(0, 3, 0)), 'phase 3, cache off'
     yield clocked(ld(0, 1, 0), flying(8, 3, 0)), 'phase 3, LD from a device'
@@ -189,6 +195,8 @@ def phase_cases():
     yield clocked(ld(0, 7, 0), flying(0, 4, 6)), 'phase 4, LD, count 6'
     yield clocked(st(0, 7, 0), flying(0, 4, 5)), 'phase 4, ST, count 5'
     yield clocked(imm(m.MOV, 0, 1), flying(0, 4, 1)), 'phase 4, MOV'
+    yield clocked(ld(0, 1, 0), flying(0, 4, 1)), 'phase 4, LD from a device'
+    yield clocked(st(0, 1, 0), flying(0, 4, 1)), 'phase 4, ST to a device'
     yield clocked(ld(0, 7, 0), flying(0, 4, 5)), 'phase 4, LD, count 5'
     yield clocked(st(0, 7, 0), flying(0, 4, 4)), 'phase 4, ST, count 4'
     yield clocked(imm(m.MOV, 0, 1), flying(0, 5, 0)), 'phase 5, MOV'
@@ -196,6 +204,7 @@ def phase_cases():
     yield clocked(st(0, 1, 0), flying(0, 5, 0)), 'phase 5, ST to a device'
     yield clocked(ld(0, 7, 128), flying(8, 5, 0, (1, 0, 0))), 'phase 5, LD, another block in the line'
     yield clocked(off, flying(8, 5, 0, (1, 1, 0))), 'phase 5, clearing bit 3 with a line dirty'
+    yield clocked(off, flying(8, 5, 0, (1, 1, 15), at=15)), 'phase 5, clearing bit 3 with line 15 dirty'
     yield clocked(off, flying(0, 5, 0)), 'phase 5, bit 3 clear already'
     yield clocked(branch(14, 0), flying(0, 5, 1)), 'phase 5, count 1'
     yield clocked(branch(14, 0), flying(0, 5, 0)), 'phase 5, 14 taken'
@@ -203,6 +212,7 @@ def phase_cases():
     yield clocked(m.jump(7), flying(0, 5, 0)), 'phase 5, 11 with bit 10 set'
     yield clocked(off, flying(8, 5, 0, (1, 0, 0))), 'phase 5, clearing bit 3 with no line dirty'
     yield clocked(ld(0, 1, 0), flying(0, 5, 0)), 'phase 5, LD from a device'
+    yield clocked(ld(0, 7, 128), flying(8, 5, 0, (1, 0, 16))), 'phase 5, LD, its block in the line'
     yield clocked(st(0, 7, 128), flying(8, 5, 0, (1, 1, 16))), 'phase 5, ST, its block in the line'
 
 
@@ -241,6 +251,14 @@ def line_cases():
     yield clocked(0x3BC00, flying(8, 0, 0, (0, 0, 1))), 'an empty line with block 1'
     yield clocked(0x3BC00, flying(8, 0, 0, (0, 0, 16))), 'an empty line with block 16'
     yield clocked(0x3BC00, flying(8, 0, 0, (1, 1, 16))), 'a full line, dirty, with the last block of its own'
+    yield clocked(0x3BC00, flying(8, 0, 0, (2, 0, 15), at=15)), 'line 15: full is 2'
+    yield clocked(0x3BC00, flying(8, 0, 0, (1, 2, 15), at=15)), 'line 15: dirty is 2'
+    yield clocked(0x3BC00, flying(0, 0, 0, (1, 0, 15), at=15)), 'line 15: full, cache off'
+    yield clocked(0x3BC00, flying(8, 0, 0, (1, 0, 47), at=15)), 'line 15: full, its block outside the store'
+    yield clocked(0x3BC00, flying(8, 0, 0, (1, 0, 14), at=15)), "line 15: full, another line's block"
+    yield clocked(0x3BC00, flying(8, 0, 0, (0, 1, 0), at=15)), 'line 15: empty, dirty'
+    yield clocked(0x3BC00, flying(8, 0, 0, (0, 0, 15), at=15)), 'line 15: empty with block 15'
+    yield clocked(0x3BC00, flying(8, 0, 0, (1, 1, 31), at=15)), 'line 15: full, dirty, with the last block of the store'
 
 
 def byte_cases():

@@ -18,7 +18,7 @@ use Rattle.trm_reference.specs.Interrupt.{stalled, interruptChosen}
 use Rattle.trm_reference.specs.Trace.{Pins, clocks, endOf, outsOf}
 use Rattle.trm_reference.specs.Reference.{Reference, charge, takeOff, referenceHeld, referenceInterrupt, referenceClock, referenceReset}
 use Rattle.trm_agreement.specs.Ledger.{Did, heldIn, chargesIn, spentIn, isFinish, Took, due, did, ledgerFrom, longest}
-use Rattle.trm_agreement.specs.Devices.{finishes, accessesOf, deviceAnswers}
+use Rattle.trm_agreement.specs.Devices.{accessesOf, deviceAnswers}
 
 -- The ledger after any clocks: clocks = held + charges of what finished + unheld clocks spent on the one in flight; what is spent
 -- and what is left are its charge; what finished took its charge.
@@ -43,8 +43,7 @@ pub record Bounded : Type 0 where
 
 -- Devices, clock by clock: the clock that carries a word out answers for it, any other clock is silent.
 pub record Told (G : Geometry) (p : List ℕ) (q : Reference) (pins : Pins) : Type 0 where
-  pub counts : referenceClock G p q pins .out .done ≡ flag (finishes G p q pins)
-  pub booked : isFinish (did G p q pins) ≡ finishes G p q pins
+  pub counts : referenceClock G p q pins .out .done ≡ flag (isFinish (did G p q pins))
   pub done : referenceClock G p q pins .out .done ≡ 1 → referenceClock G p q pins .out
       ≡ answerOf (wordAt p (q .visible .pc)) (q .visible) (length (q .memory)) (pins .input)
   pub quiet : referenceClock G p q pins .out .done ≡ 0 → referenceClock G p q pins .out ≡ silent 0

@@ -52,6 +52,15 @@ rows =
     -- −8 DIV 3, which tells a remainder from its complement; −2^31 − 1, which tells C from the unsigned borrow
     ∷ row 9 (2 ^ 32 - 8) 3 ((2 ^ 32 - 3) ∷ 1 ∷ 1 ∷ 0 ∷ 0 ∷ 0 ∷ [])
     ∷ row 3 (2 ^ 31) 1 (0x7FFF_FFFF ∷ 0 ∷ 0 ∷ 0 ∷ 1 ∷ 1 ∷ [])
+    -- −1 + 2 and −3 + 1, which tell C of ADD from the unsigned carry; 7FFFFFFFH − (−1), whose exact result 2^31 is too wide upwards
+    ∷ row 2 (2 ^ 32 - 1) 2 (1 ∷ 0 ∷ 0 ∷ 0 ∷ 0 ∷ 0 ∷ [])
+    ∷ row 2 (2 ^ 32 - 3) 1 ((2 ^ 32 - 2) ∷ 0 ∷ 1 ∷ 0 ∷ 1 ∷ 0 ∷ [])
+    ∷ row 3 0x7FFF_FFFF (2 ^ 32 - 1) (0x8000_0000 ∷ 0 ∷ 1 ∷ 0 ∷ 0 ∷ 1 ∷ [])
+    -- 7 DIV −2 and −7 DIV 80000000H: A is below 0, so R.d is 0 and H the dividend
+    ∷ row 9 7 (2 ^ 32 - 2) (0 ∷ 7 ∷ 0 ∷ 1 ∷ 0 ∷ 0 ∷ [])
+    ∷ row 9 (2 ^ 32 - 7) 0x8000_0000 (0 ∷ (2 ^ 32 - 7) ∷ 0 ∷ 1 ∷ 0 ∷ 0 ∷ [])
+    -- 10000H × 8000H is 2^31: N is bit 31 of the low word, the high word being 0
+    ∷ row 8 0x1_0000 0x8000 (0x8000_0000 ∷ 0 ∷ 1 ∷ 0 ∷ 0 ∷ 0 ∷ [])
     -- C and V change only in ADD, SUB and (C alone) ROR, and H only in MUL and DIV: each operation with H 5, C 1, V 1 before it
     ∷ rowSet 0 9 0 (0 ∷ 5 ∷ 0 ∷ 1 ∷ 1 ∷ 1 ∷ [])
     ∷ rowSet 1 9 0xFFFF (0xFFFF_0000 ∷ 5 ∷ 1 ∷ 0 ∷ 1 ∷ 1 ∷ [])

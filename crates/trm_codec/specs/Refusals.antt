@@ -14,10 +14,16 @@ use Rattle.trm_codec.specs.declared.instruction.Encoded.{Encoded}
 use Rattle.trm_codec.specs.declared.instruction.Encoded.the-variants as E
 use Rattle.trm_codec.specs.Decode.{decodeOf}
 use Rattle.trm_codec.specs.Encode.{fits, placed, encodeOf}
+use Rattle.trm_codec.specs.Unused.{unusedZero}
 
 abbrev pub decodeNumber : Decoded → ℕ
 decodeNumber (D.Instruction i) = 0
 decodeNumber D.Refused = 3
+
+-- the instruction of an answer as a number, the word that it encodes to; a refusal has none, and counts as 0
+abbrev pub decodeValue : Decoded → ℕ
+decodeValue (D.Instruction i) = placed i
+decodeValue D.Refused = 0
 
 abbrev pub encodeNumber : Encoded → ℕ
 encodeNumber (E.Word w) = 0
@@ -39,6 +45,7 @@ instructionRefusal i = cond (fits i) 0 10
 pub record Decodes (w : ℕ) (r : Decoded) : Type 0 where
   pub answer : r ≡ decodeOf w
   pub number : decodeNumber r ≡ wordRefusal w
+  pub value : decodeValue r ≡ cond (ltb 0x3FFFF w) 0 (unusedZero w)
 
 pub record Encodes (i : Instruction) (r : Encoded) : Type 0 where
   pub answer : r ≡ encodeOf i

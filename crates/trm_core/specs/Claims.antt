@@ -100,7 +100,7 @@ Deaf =
 
 -- For every record: a held clock; a clock that takes an interrupt, in phase 0 only; any other works on the word at PC.
 pub record Clocked (G : Geometry) (p : List ℕ) (x : Lent) (pins : Pins) : Type 0 where
-  pub held : stalled (pins .line) ≡ true → clockOf G p x pins ≡ heldClock G (x .machine) (x .store)
+  pub held : stalled (pins .line) ≡ true → clockOf G p x pins ≡ heldClock (x .machine) (x .store)
   pub takes : stalled (pins .line) ≡ false → acknowledges (x .machine) pins ≡ true
       → clockOf G p x pins ≡ carried (x .machine .scalars)
       (interrupted (visibleOf (x .machine)) (interruptChosen (x .machine .scalars .status) (pins .line)))

@@ -45,6 +45,18 @@ quiet rs t =
 abbrev pub carried : Scalars → Visible → Cache → List ℕ → Answer → After Lent Answer
 carried c v ca s a = record { state = record { machine = whole (ended c v) (v .regs) ca; store = s }; out = a }
 
+-- "A clock with stall set is held: it adds one to the clock and held counts and does nothing else."
+unfoldable pub heldClock : Machine → List ℕ → After Lent Answer
+heldClock m s =
+    record {
+      state = record { machine = whole (waited (m .scalars)) (m .regs) (cacheOf m); store = s };
+      out = silent 0;
+    }
+
+-- ST past the cache
+unfoldable pub storeAfter : ℕ → ℕ → Visible → List ℕ → List ℕ
+storeAfter w n v s = cond (pastCache w v n && isStore w) (set s (target w v n) (stored w v)) s
+
 module _ (G : Geometry) where
   -- the line of the word's access
   unfoldable pub lineFor : ℕ → ℕ → Visible → Cache → Line
@@ -72,10 +84,6 @@ module _ (G : Geometry) where
       cond (throughCache w v n)
       (cond (isStore w) (storedTo G ca (targetLine G w v n) (target w v n % G .words) (stored w v)) ca)
       (cond (turnsCacheOff w v) (allEmptied G ca) ca)
-
-  -- ST past the cache
-  unfoldable pub storeAfter : ℕ → ℕ → Visible → List ℕ → List ℕ
-  storeAfter w n v s = cond (pastCache w v n && isStore w) (set s (target w v n) (stored w v)) s
 
   -- "What a programmer sees changes only in an instruction's last clock; a device is read or written only in that clock"
   unfoldable pub finish : ℕ → ℕ → Machine → List ℕ → ℕ → After Lent Answer
@@ -148,14 +156,6 @@ module _ (G : Geometry) where
       cond (eqb (m .scalars .running .phase) 0 && not (eqb (interruptChosen (m .scalars .status) (pins .line)) 0))
       (carried (m .scalars) (interrupted (visibleOf m) (interruptChosen (m .scalars .status) (pins .line))) (cacheOf m) s (silent 0))
       (worked w n m s (pins .input))
-
-  -- "A clock with stall set is held: it adds one to the clock and held counts and does nothing else."
-  unfoldable pub heldClock : Machine → List ℕ → After Lent Answer
-  heldClock m s =
-      record {
-        state = record { machine = whole (waited (m .scalars)) (m .regs) (cacheOf m); store = s };
-        out = silent 0;
-      }
 
   unfoldable pub clockOf : List ℕ → Lent → Pins → After Lent Answer
   clockOf p x pins =

@@ -4,7 +4,7 @@
 --   rows      what a call gives, and what is expected of it        AllGive rs   every row gives what is expected
 use Prim.Native.Nat.{ℕ, _+_, _-_}
 use mathlib.Core.Path.{_≡_}
-use mathlib.Core.List.{List, [], _∷_, map}
+use mathlib.Core.List.{List, [], _∷_, _++_, map}
 use lib.ListN.{replicate, getD}
 use Rattle.trm_reference.specs.Geometry.{paperGeometry}
 use Rattle.trm_reference.specs.Visible.{Visible}
@@ -59,11 +59,15 @@ abbrev pub running : ℕ → ℕ → ℕ → ℕ → ℕ → Running
 running phase count product remainder quotient =
     record { phase = phase; count = count; product = product; remainder = remainder; quotient = quotient }
 
--- full, dirty and block of line 0; the other lines are empty
+-- full, dirty and block of line 0, or of line 15, the last; the other lines are empty
 abbrev pub line0 : ℕ → ℕ → ℕ → Cache
 line0 full dirty block = cache (full ∷ zeros 15) (dirty ∷ zeros 15) (block ∷ zeros 15) (zeros 128)
 
--- the record of a reset with 256 words, and what may differ from it: what is seen; the counts; status, what is running, and line 0
+abbrev pub line15 : ℕ → ℕ → ℕ → Cache
+line15 full dirty block =
+    cache (zeros 15 ++ (full ∷ [])) (zeros 15 ++ (dirty ∷ [])) (zeros 15 ++ (block ∷ [])) (zeros 128)
+
+-- the record of a reset with 256 words, and what may differ from it: what is seen; the counts; status, what is running, and a line
 abbrev pub ready : Machine
 ready = resetOf paperGeometry (zeros 256)
 
@@ -122,6 +126,7 @@ AllGive [] = Unit {0}
 AllGive (r ∷ rs) = (r .gives ≡ r .expected) × AllGive rs
 
 -- The words: LD R0 from 128 is 0x30407, from 0 is 0x30007, from device 0 is 0x30001; ST R0 is 0x34407, 0x34007 and 0x34001 alike.
+-- LD R0 from device 63 is 0x301F9; its address FFFFH mod 256 would be 255, of block 31 and line 15.
 -- MUL R0 by 0 is 0x20000, by 5 is 0x20005; DIV R0 by 2 is 0x24002; MOV 0x00001; status := 0 is 0x2C000, := 8 is 0x2C008;
 -- branch never is 0x3BC00, always 0x3B800; call 0x3C000; jump 0x2C407.
 unfoldable pub rows : List Row
@@ -152,10 +157,16 @@ rows =
     ∷ row (clocked 0x30407 (flying 8 (inPhase 2 0) (line0 1 0 0))) 5  -- phase 2, the line clean
     ∷ row (clocked 0x30407 (flying 8 (inPhase 2 0) (line0 1 1 16))) 5  -- phase 2, its own block in the line
     ∷ row (clocked 0x30407 (flying 8 (inPhase 2 10) (line0 1 1 0))) 5  -- phase 2, count 10
+    ∷ row (clocked 0x30407 (flying 8 (inPhase 2 0) (line0 0 0 0))) 5  -- phase 2, the line empty
+    ∷ row (clocked 0x30001 (flying 8 (inPhase 2 0) (line0 1 1 16))) 5  -- phase 2, LD from device 0, line 0 dirty
+    ∷ row (clocked 0x301F9 (flying 8 (inPhase 2 0) (line15 1 1 15))) 5  -- phase 2, LD from device 63, line 15 dirty
+    ∷ row (clocked 0x34407 (flying 8 (inPhase 2 0) (line0 1 1 16))) 5  -- phase 2, ST, its own block in the line
     ∷ row (clocked 0x2C000 (flying 8 (inPhase 2 0) (line0 1 0 0))) 5  -- phase 2, clearing bit 3 with no line dirty
     ∷ row (clocked 0x2C008 (flying 8 (inPhase 2 0) (line0 1 1 0))) 5  -- phase 2, bit 3 not cleared
     ∷ row (clocked 0x30407 (flying 8 (inPhase 2 9) (line0 1 1 0))) 0  -- phase 2, count 9, LD
+    ∷ row (clocked 0x34407 (flying 8 (inPhase 2 9) (line0 1 1 0))) 0  -- phase 2, count 9, ST
     ∷ row (clocked 0x2C000 (flying 8 (inPhase 2 9) (line0 1 1 0))) 0  -- phase 2, count 9, clearing bit 3
+    ∷ row (clocked 0x2C000 (flying 8 (inPhase 2 9) (line15 1 1 15))) 0  -- phase 2, count 9, clearing bit 3 with line 15 dirty
     ∷ row (clocked 0x30407 (flying 8 (inPhase 3 0) (line0 1 0 0))) 5  -- phase 3, the line full
     ∷ row (clocked 0x30407 (flying 0 (inPhase 3 0) (line0 0 0 0))) 5  -- phase 3, cache off
     ∷ row (clocked 0x30001 (flying 8 (inPhase 3 0) (line0 0 0 0))) 5  -- phase 3, LD from a device
@@ -166,6 +177,8 @@ rows =
     ∷ row (clocked 0x30007 (flying 0 (inPhase 4 6) (line0 0 0 0))) 5  -- phase 4, LD, count 6
     ∷ row (clocked 0x34007 (flying 0 (inPhase 4 5) (line0 0 0 0))) 5  -- phase 4, ST, count 5
     ∷ row (clocked 0x00001 (flying 0 (inPhase 4 1) (line0 0 0 0))) 5  -- phase 4, MOV
+    ∷ row (clocked 0x30001 (flying 0 (inPhase 4 1) (line0 0 0 0))) 5  -- phase 4, LD from a device
+    ∷ row (clocked 0x34001 (flying 0 (inPhase 4 1) (line0 0 0 0))) 5  -- phase 4, ST to a device
     ∷ row (clocked 0x30007 (flying 0 (inPhase 4 5) (line0 0 0 0))) 0  -- phase 4, LD, count 5
     ∷ row (clocked 0x34007 (flying 0 (inPhase 4 4) (line0 0 0 0))) 0  -- phase 4, ST, count 4
     ∷ row (clocked 0x00001 (flying 0 (inPhase 5 0) (line0 0 0 0))) 5  -- phase 5, MOV
@@ -173,6 +186,7 @@ rows =
     ∷ row (clocked 0x34001 (flying 0 (inPhase 5 0) (line0 0 0 0))) 5  -- phase 5, ST to a device
     ∷ row (clocked 0x30407 (flying 8 (inPhase 5 0) (line0 1 0 0))) 5  -- phase 5, LD, another block in the line
     ∷ row (clocked 0x2C000 (flying 8 (inPhase 5 0) (line0 1 1 0))) 5  -- phase 5, clearing bit 3 with a line dirty
+    ∷ row (clocked 0x2C000 (flying 8 (inPhase 5 0) (line15 1 1 15))) 5  -- phase 5, clearing bit 3 with line 15 dirty
     ∷ row (clocked 0x2C000 (flying 0 (inPhase 5 0) (line0 0 0 0))) 5  -- phase 5, bit 3 clear already
     ∷ row (clocked 0x3B800 (flying 0 (inPhase 5 1) (line0 0 0 0))) 5  -- phase 5, count 1
     ∷ row (clocked 0x3B800 (flying 0 (inPhase 5 0) (line0 0 0 0))) 0  -- phase 5, 14 taken
@@ -180,6 +194,7 @@ rows =
     ∷ row (clocked 0x2C407 (flying 0 (inPhase 5 0) (line0 0 0 0))) 0  -- phase 5, 11 with bit 10 set
     ∷ row (clocked 0x2C000 (flying 8 (inPhase 5 0) (line0 1 0 0))) 0  -- phase 5, clearing bit 3 with no line dirty
     ∷ row (clocked 0x30001 (flying 0 (inPhase 5 0) (line0 0 0 0))) 0  -- phase 5, LD from a device
+    ∷ row (clocked 0x30407 (flying 8 (inPhase 5 0) (line0 1 0 16))) 0  -- phase 5, LD, its block in the line
     ∷ row (clocked 0x34407 (flying 8 (inPhase 5 0) (line0 1 1 16))) 0  -- phase 5, ST, its block in the line
     ∷ row (clocked 0x3BC00 (flying 0 (running 0 0 1 0 0) (line0 0 0 0))) 5  -- phase 0, product 1
     ∷ row (clocked 0x3BC00 (flying 0 (running 0 0 0 1 0) (line0 0 0 0))) 5  -- phase 0, remainder 1
@@ -208,6 +223,14 @@ rows =
     ∷ row (clocked 0x3BC00 (flying 8 (inPhase 0 0) (line0 0 0 1))) 5  -- an empty line with block 1
     ∷ row (clocked 0x3BC00 (flying 8 (inPhase 0 0) (line0 0 0 16))) 5  -- an empty line with block 16
     ∷ row (clocked 0x3BC00 (flying 8 (inPhase 0 0) (line0 1 1 16))) 0  -- a full line, dirty, with the last block of its own
+    ∷ row (clocked 0x3BC00 (flying 8 (inPhase 0 0) (line15 2 0 15))) 5  -- line 15: full is 2
+    ∷ row (clocked 0x3BC00 (flying 8 (inPhase 0 0) (line15 1 2 15))) 5  -- line 15: dirty is 2
+    ∷ row (clocked 0x3BC00 (flying 0 (inPhase 0 0) (line15 1 0 15))) 5  -- line 15: full, cache off
+    ∷ row (clocked 0x3BC00 (flying 8 (inPhase 0 0) (line15 1 0 47))) 5  -- line 15: full, its block outside the store
+    ∷ row (clocked 0x3BC00 (flying 8 (inPhase 0 0) (line15 1 0 14))) 5  -- line 15: full, another line's block
+    ∷ row (clocked 0x3BC00 (flying 8 (inPhase 0 0) (line15 0 1 0))) 5  -- line 15: empty, dirty
+    ∷ row (clocked 0x3BC00 (flying 8 (inPhase 0 0) (line15 0 0 15))) 5  -- line 15: empty with block 15
+    ∷ row (clocked 0x3BC00 (flying 8 (inPhase 0 0) (line15 1 1 31))) 0  -- line 15: full, dirty, with the last block of the store
     ∷ row (clockGives never ready 256 8) 6  -- clock: line byte 8
     ∷ row (clockGives never ready 256 7) 0  -- clock: line byte 7
     ∷ row (clocked 0x3BC00 (counted 4294967295 0 0 0)) 8  -- clock: 4,294,967,295 clocks before

@@ -44,6 +44,14 @@ registersOk w r v =
 unfoldable pub arithmeticOk : ℕ → ℕ → Bool
 arithmeticOk w count = leb 1 count && leb count 32 && isStepped w
 
+-- "4 uncached wait, 1–5 for LD, 1–4 for ST"
+unfoldable pub waitOk : ℕ → ℕ → ℕ → Visible → Bool
+waitOk w n count v = leb 1 count && leb count (cond (isLoad w) 5 4) && pastCache w v n
+
+-- each of full and dirty has one bit
+unfoldable pub marksOk : Cache → ℕ → Bool
+marksOk ca l = ltb (getD (ca .full) l 0) 2 && ltb (getD (ca .dirty) l 0) 2
+
 module _ (G : Geometry) where
   -- "2 write-back, 0–9, on a full dirty line"; "2 needs 12 or 13 to memory, its line holding another block, or 11 clearing status bit 3"
   unfoldable pub writebackOk : ℕ → ℕ → ℕ → Visible → Cache → Bool
@@ -55,10 +63,6 @@ module _ (G : Geometry) where
   -- "3 refill, 0–9"; "3 and 4 need 12 or 13 to memory, cache on and off, in 3 the line empty"
   unfoldable pub refillOk : ℕ → ℕ → ℕ → Visible → Cache → Bool
   refillOk w n count v ca = ltb count (burst G) && throughCache w v n && not (lineFor G w n v ca .full)
-
-  -- "4 uncached wait, 1–5 for LD, 1–4 for ST"
-  unfoldable pub waitOk : ℕ → ℕ → ℕ → Visible → Bool
-  waitOk w n count v = leb 1 count && leb count (cond (isLoad w) 5 4) && pastCache w v n
 
   -- "5 needs 14 taken, 15, 11 with bit 10 set, 11 clearing bit 3 with cache on and no line dirty, LD from a device, or LD or ST with
   -- its block in the line"
@@ -89,10 +93,6 @@ module _ (G : Geometry) where
       (on && eqb (lineOf G (ln .block)) l && leb (ln .block * G .words + G .words) n)
       (not (ln .dirty) && eqb (ln .block) 0)
 
-  -- each of full and dirty has one bit (D-07)
-  unfoldable pub marksOk : Cache → ℕ → Bool
-  marksOk ca l = ltb (getD (ca .full) l 0) 2 && ltb (getD (ca .dirty) l 0) 2
-
 -- every number below k passes the test
 unfoldable pub allBelow : ℕ → (ℕ → Bool) → Bool
 allBelow zero f = true
@@ -100,7 +100,7 @@ allBelow (suc k) f = allBelow k f && f k
 
 module _ (G : Geometry) where
   unfoldable pub linesOk : Bool → ℕ → Cache → Bool
-  linesOk on n ca = allBelow (G .lines) (λ l. marksOk G ca l && lineOk G on n l (lineAt G ca l))
+  linesOk on n ca = allBelow (G .lines) (λ l. marksOk ca l && lineOk G on n l (lineAt G ca l))
 
   -- row 5; "The operation is that of the word at PC"
   unfoldable pub recordOk : List ℕ → ℕ → Machine → Bool

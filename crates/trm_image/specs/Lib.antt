@@ -5,6 +5,7 @@ pub mod Records
 pub mod Numbers
 pub mod Refused
 pub mod Meaning
+pub mod Runs
 pub mod Written
 pub mod Cases
 pub mod Claims

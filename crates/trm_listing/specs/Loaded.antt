@@ -8,7 +8,7 @@ use lib.ListN.{length, drop}
 use Rattle.trm_image.specs.Records.{begins}
 use Rattle.trm_image.specs.Refused.{imageFault}
 use Rattle.trm_image.specs.Meaning.{imageOf, runsIn}
-use Rattle.trm_image.proofs.Laws.Runs.{Runs}
+use Rattle.trm_image.specs.Runs.{Runs}
 use Rattle.trm_listing.specs.Listing.{firstStore}
 
 -- an accepted image, and a store of 2,048 words

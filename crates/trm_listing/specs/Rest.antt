@@ -11,7 +11,7 @@ use Rattle.trm_core.specs.declared.record.Scalars.{Scalars}
 use Rattle.trm_core.specs.Record.{Lent}
 use Rattle.trm_image.specs.Records.{begins}
 use Rattle.trm_image.specs.Meaning.{runsIn}
-use Rattle.trm_image.proofs.Laws.Runs.{Runs}
+use Rattle.trm_image.specs.Runs.{Runs}
 use Rattle.trm_lines.specs.Onward.{textFrom, Able}
 use Rattle.trm_listing.specs.declared.inner.runs.Place.{Place}
 use Rattle.trm_listing.specs.Listing.{pinsOfRuns}

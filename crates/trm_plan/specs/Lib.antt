@@ -1,5 +1,5 @@
--- The plan in definitions, and a clock's outcome: what the engine's functions promise each other. No claim rests on it.
+-- A record that keeps row 5, and a clock's outcome: what the clock's functions ask and promise. No claim rests on these.
 -- Paper: none; what a clock does is trm_core's `clockOf`.
 -- Assumes nothing.
-pub mod Plan
+pub mod Good
 pub mod Made

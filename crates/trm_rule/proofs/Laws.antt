@@ -48,7 +48,7 @@ below-end k i f p q t = let e : i ≡ k = omega (arith, p, q) in rw (← e) t
 
 -- what is asked of line l
 abbrev pub goodLine : Bool → ℕ → Cache → ℕ → Bool
-goodLine on n ca l = marksOk paperGeometry ca l && lineOk paperGeometry on n l (lineAt paperGeometry ca l)
+goodLine on n ca l = marksOk ca l && lineOk paperGeometry on n l (lineAt paperGeometry ca l)
 
 -- in phase 1 of a passed phase the count is at most 32
 pub stepped-count : (w n : ℕ) (r : Running) (v : Visible) (ca : Cache) → phaseOk paperGeometry w n r v ca ≡ true

@@ -33,7 +33,7 @@ devices-fit base offset length n = go (ltb (effectiveAddress base offset) 0xFFC0
 pub theorems : Claims
 theorems =
     record {
-      addresses-hold = record { wraps = refl; memory = refl; device = refl };
+      addresses-hold = record { wraps = refl; seven = refl; memory = refl; device = refl };
       devices-fit = devices-fit;
       conditions-paired = conditions-paired;
     }

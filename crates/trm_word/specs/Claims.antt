@@ -6,11 +6,13 @@ use mathlib.Core.Path.{_≡_}
 use mathlib.Core.Bool.{not}
 use Rattle.trm_word.specs.declared.inner.address.Place.the-variants.{Device, Memory}
 use Rattle.trm_word.specs.Condition.{conditionHolds}
-use Rattle.trm_word.specs.Address.{effectiveAddress, placeOf}
+use Rattle.trm_word.specs.Address.{baseOf, effectiveAddress, placeOf}
 
--- * R1 = FFFFH, offset 1: address 0. * FFBFH is memory, FFC0H device 0 (a store of 2,048 words: FFBFH mod 2,048 is 7BFH).
+-- * R1 = FFFFH, offset 1: address 0; the base is "zero for s = 7", so with R7 = FFFFH and offset 1 it is 1.
+-- * FFBFH is memory, FFC0H device 0 (a store of 2,048 words: FFBFH mod 2,048 is 7BFH).
 pub record AddressesHold : Type 0 where
-  pub wraps : effectiveAddress 0xFFFF 1 ≡ 0
+  pub wraps : effectiveAddress (baseOf 1 0xFFFF) 1 ≡ 0
+  pub seven : effectiveAddress (baseOf 7 0xFFFF) 1 ≡ 1
   pub memory : placeOf 0xFFBF 2048 ≡ Memory 0x7BF
   pub device : placeOf 0xFFC0 2048 ≡ Device 0
 

@@ -197,7 +197,7 @@ module _ (G : Geometry) (p : List ℕ) where
         ph : m .scalars .running .phase ≡ 5
         ph = phase-of (m .scalars .running) 5 0 rq
 
-  held-step : (m : Machine) (s : List ℕ) (e : Extra) → Related G p m s e → Agree G p (heldClock G m s) (referenceHeld (plainOf m e))
+  held-step : (m : Machine) (s : List ℕ) (e : Extra) → Related G p m s e → Agree G p (heldClock m s) (referenceHeld (plainOf m e))
   unfolding heldClock referenceHeld
   held-step m s e r = record {
     extra = e;
@@ -228,7 +228,7 @@ module _ (G : Geometry) (p : List ℕ) where
   unfolding clockOf referenceClock
   clock-step m s e pins r = rw (r .common .size) (go (stalled (pins .line)))
     where
-      go : (t : Bool) → Agree G p (cond t (heldClock G m s) (unheld G (wordAt p (m .scalars .pc)) (m .scalars .size) m s pins))
+      go : (t : Bool) → Agree G p (cond t (heldClock m s) (unheld G (wordAt p (m .scalars .pc)) (m .scalars .size) m s pins))
           (cond t (referenceHeld (plainOf m e)) (referenceUnheld G (wordAt p (m .scalars .pc)) (plainOf m e) pins))
       go true = held-step m s e r
       go false = unheld-step (wordAt p (m .scalars .pc)) m s e (r .common) refl

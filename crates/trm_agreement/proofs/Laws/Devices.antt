@@ -27,7 +27,7 @@ use Rattle.trm_reference.specs.Reference.{referenceClock}
 use Rattle.trm_core.proofs.Laws.Deaf.{load-only, answer-done}
 use Rattle.trm_agreement.proofs.Laws.Bounds.{charge-pos}
 use Rattle.trm_agreement.specs.Ledger.{waited, acknowledged as idle, worked, finished, isFinish, due, did}
-use Rattle.trm_agreement.specs.Devices.{finishes, accessesDevice, accessesOf, deviceAnswers}
+use Rattle.trm_agreement.specs.Devices.{accessesDevice, accessesOf, deviceAnswers}
 use Rattle.trm_agreement.specs.Plain.{Told, Moves, InOrder, DevicesHold, acknowledged, Quiet}
 
 -- the outcome of a clock, told by what it does: a finishing one answers a, any other is silent and still
@@ -57,68 +57,58 @@ module _ (G : Geometry) (p : List ℕ) (q : Reference) (pins : Pins) where
       }
       go false = record { ends = λ z. clash z; else = λ _. refl; visible = λ _ _. refl; memory = λ _ _. refl }
 
-  clock-shows : Shows q a (finishes G p q pins) (acknowledged q pins) (referenceClock G p q pins)
-  unfolding referenceClock referenceUnheld referenceHeld referenceInterrupt finishes w
+  -- the ledger's last clock of an instruction, by the test that it is one
+  shows-if : (t : Bool) (c : ℕ) (u : After Reference Answer) → Shows q a t false u
+      → Shows q a (isFinish (cond t (finished c) worked)) false u
+  unfolding isFinish
+  shows-if true c u h = h
+  shows-if false c u h = h
+
+  clock-shows : Shows q a (isFinish (did G p q pins)) (acknowledged q pins) (referenceClock G p q pins)
+  unfolding referenceClock referenceUnheld referenceHeld referenceInterrupt did due isFinish w
   clock-shows = go (stalled (pins .line)) (eqb (q .left) 0) refl (eqb (interruptChosen (q .visible .status) (pins .line)) 0)
     where
       go : (s z : Bool) → eqb (q .left) 0 ≡ z → (c : Bool)
-          → Shows q a (not s && cond z (c && eqb (charge G w q) 1) (eqb (q .left) 1)) (not s && z && not c)
+          → Shows q a (isFinish (cond s waited (cond z (cond c (cond (eqb (charge G w q) 1) (finished (charge G w q)) worked) idle)
+          (cond (eqb (q .left) 1) (finished (charge G w q)) worked)))) (not s && z && not c)
           (cond s (referenceHeld q) (cond z (cond c (takeOff G w q (charge G w q) (pins .input))
           (referenceInterrupt (interruptChosen (q .visible .status) (pins .line)) q)) (takeOff G w q (q .left) (pins .input))))
       go true z y c = record { ends = λ e. clash e; else = λ _. refl; visible = λ _ _. refl; memory = λ _ _. refl }
-      go false true y true = off-shows (charge G w q) (λ e. absurd (let h = charge-pos G w q in omega arith))
+      go false true y true =
+          shows-if _ _ _ (off-shows (charge G w q) (λ e. absurd (let h = charge-pos G w q in omega arith)))
       go false true y false = record {
         ends = λ e. clash e;
         else = λ _. refl;
         visible = λ _ e. bool-clash true refl e;
         memory = λ _ e. bool-clash true refl e;
       }
-      go false false y c = off-shows (q .left) (eqb-false (q .left) 0 y)
+      go false false y c = shows-if _ _ _ (off-shows (q .left) (eqb-false (q .left) 0 y))
 
-  finishes-done : (t : Bool) → finishes G p q pins ≡ t → referenceClock G p q pins .out .done ≡ cond t 1 0
+  finishes-done : (t : Bool) → isFinish (did G p q pins) ≡ t → referenceClock G p q pins .out .done ≡ cond t 1 0
   unfolding a
   finishes-done true e = rw (clock-shows .ends e)
       (answer-done (wordAt p (q .visible .pc)) (q .visible) (length (q .memory)) (pins .input))
   finishes-done false e = rw (clock-shows .else e)
 
   -- a word was carried out iff the clock finishes one
-  is-finish : referenceClock G p q pins .out .done ≡ 1 → finishes G p q pins ≡ true
-  is-finish d = go (finishes G p q pins) refl
+  is-finish : referenceClock G p q pins .out .done ≡ 1 → isFinish (did G p q pins) ≡ true
+  is-finish d = go (isFinish (did G p q pins)) refl
     where
-      go : (t : Bool) → finishes G p q pins ≡ t → t ≡ true
+      go : (t : Bool) → isFinish (did G p q pins) ≡ t → t ≡ true
       go true e = refl
       go false e = absurd (let h = finishes-done false e in omega arith)
 
-  no-finish : referenceClock G p q pins .out .done ≡ 0 → finishes G p q pins ≡ false
-  no-finish d = go (finishes G p q pins) refl
+  no-finish : referenceClock G p q pins .out .done ≡ 0 → isFinish (did G p q pins) ≡ false
+  no-finish d = go (isFinish (did G p q pins)) refl
     where
-      go : (t : Bool) → finishes G p q pins ≡ t → t ≡ false
+      go : (t : Bool) → isFinish (did G p q pins) ≡ t → t ≡ false
       go true e = absurd (let h = finishes-done true e in omega arith)
       go false e = refl
-
--- the ledger's last clocks are those that carry a word out
-did-finishes : (G : Geometry) (p : List ℕ) (q : Reference) (pins : Pins) → isFinish (did G p q pins) ≡ finishes G p q pins
-unfolding did due finishes isFinish
-did-finishes G p q pins = go (stalled (pins .line)) (eqb (q .left) 0) (eqb (interruptChosen (q .visible .status) (pins .line)) 0)
-    (eqb (charge G (wordAt p (q .visible .pc)) q) 1) (eqb (q .left) 1)
-  where
-    c : ℕ
-    c = charge G (wordAt p (q .visible .pc)) q
-
-    go : (s z n u l : Bool) → isFinish (cond s waited (cond z (cond n (cond u (finished c) worked) idle) (cond l (finished c) worked)))
-        ≡ not s && cond z (n && u) l
-    go true z n u l = refl
-    go false true true true l = refl
-    go false true true false l = refl
-    go false true false u l = refl
-    go false false n u true = refl
-    go false false n u false = refl
 
 told-each : (G : Geometry) (p : List ℕ) (q : Reference) (pins : Pins) → Told G p q pins
 unfolding a
 told-each G p q pins = record {
-  counts = finishes-done G p q pins (finishes G p q pins) refl;
-  booked = did-finishes G p q pins;
+  counts = finishes-done G p q pins (isFinish (did G p q pins)) refl;
   done = λ d. clock-shows G p q pins .ends (is-finish G p q pins d);
   quiet = λ d. clock-shows G p q pins .else (no-finish G p q pins d);
 }
@@ -143,7 +133,7 @@ byte-shows w v n i = go (toDevice w v n) (isStore w)
 in-order : InOrder
 unfolding clocks outsOf deviceAnswers accessesOf accessesDevice a
 in-order G p q [] = refl
-in-order G p q (i ∷ is) = go (finishes G p q i) refl (in-order G p (referenceClock G p q i .state) is)
+in-order G p q (i ∷ is) = go (isFinish (did G p q i)) refl (in-order G p (referenceClock G p q i .state) is)
   where
     rest : List Answer
     rest = outsOf (clocks (referenceClock G p) (referenceClock G p q i .state) is)
@@ -151,9 +141,9 @@ in-order G p q (i ∷ is) = go (finishes G p q i) refl (in-order G p (referenceC
     ans : Answer
     ans = answerOf (wordAt p (q .visible .pc)) (q .visible) (length (q .memory)) (i .input)
 
-    go : (t : Bool) → finishes G p q i ≡ t → deviceAnswers rest ≡ accessesOf G p (referenceClock G p q i .state) is
+    go : (t : Bool) → isFinish (did G p q i) ≡ t → deviceAnswers rest ≡ accessesOf G p (referenceClock G p q i .state) is
         → cond (eqb (referenceClock G p q i .out .byte) 0) (deviceAnswers rest) (referenceClock G p q i .out ∷ deviceAnswers rest)
-        ≡ cond (finishes G p q i && accessesDevice G p q) (ans ∷ accessesOf G p (referenceClock G p q i .state) is)
+        ≡ cond (isFinish (did G p q i) && accessesDevice G p q) (ans ∷ accessesOf G p (referenceClock G p q i .state) is)
         (accessesOf G p (referenceClock G p q i .state) is)
     go true e ih = rw (
       clock-shows G p q i .ends e,

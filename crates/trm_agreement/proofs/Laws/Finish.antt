@@ -35,12 +35,12 @@ use Rattle.trm_agreement.proofs.Laws.Relation.{Extra, plainOf, Common, 
 module _ (G : Geometry) where
   -- what carrying out leaves
   record Settled (w n : ℕ) (m : Machine) (s : List ℕ) (e : Extra) : Type 0 where
-    size : length (storeAfter G w n (visibleOf m) s) ≡ m .scalars .size
+    size : length (storeAfter w n (visibleOf m) s) ≡ m .scalars .size
     memory : length (memoryAfter G w (plainOf m e)) ≡ m .scalars .size
     view : (a : ℕ) → a < m .scalars .size
-        → view G (cacheAfter G w n (visibleOf m) (cacheOf m)) (storeAfter G w n (visibleOf m) s) a ≡ getD
+        → view G (cacheAfter G w n (visibleOf m) (cacheOf m)) (storeAfter w n (visibleOf m) s) a ≡ getD
         (memoryAfter G w (plainOf m e)) a 0
-    sane : Sane G (cacheAfter G w n (visibleOf m) (cacheOf m)) (storeAfter G w n (visibleOf m) s)
+    sane : Sane G (cacheAfter G w n (visibleOf m) (cacheOf m)) (storeAfter w n (visibleOf m) s)
     off : (x : ℕ) → cacheOn (execute w (visibleOf m) x) ≡ false → (l : ℕ) → l < G .lines
         → lineAt G (cacheAfter G w n (visibleOf m) (cacheOf m)) l .full ≡ false
     matches : Matches G (historyAfter G w (plainOf m e)) (cacheAfter G w n (visibleOf m) (cacheOf m))
@@ -89,7 +89,7 @@ module _ (G : Geometry) where
 
   -- a word that changes no memory, no line and no history
   still : (w : ℕ) (m : Machine) (s : List ℕ) (e : Extra) → Common G m s e → turnsCacheOff w (visibleOf m) ≡ false
-      → cacheAfter G w (m .scalars .size) (visibleOf m) (cacheOf m) ≡ cacheOf m → storeAfter G w (m .scalars .size) (visibleOf m) s ≡ s
+      → cacheAfter G w (m .scalars .size) (visibleOf m) (cacheOf m) ≡ cacheOf m → storeAfter w (m .scalars .size) (visibleOf m) s ≡ s
       → memoryAfter G w (plainOf m e) ≡ e .memory → historyAfter G w (plainOf m e) ≡ e .history
       → Matches G (e .history) (cacheOf m) → Settled w (m .scalars .size) m s e
   still w m s e c n l1 s1 m1 h1 mt = record {

@@ -1,7 +1,7 @@
 -- Every clock adds one to the clock count, on any record, keeps `size`, carries out at most one word; without a byte it has no word.
 -- Idea: each branch of the clock's definition ends in `advanced`, `ended` or `waited`.
 -- Assumes nothing.
---   clock-adds    done-few
+--   clock-adds
 use Prim.Native.Nat.{ℕ, _+_, _*_, _≤_}
 use mathlib.Core.Path.{_≡_, refl}
 use mathlib.Core.Bool.{Bool, true, false, cond, not, _&&_}
@@ -103,6 +103,3 @@ clock-adds p x pins = let m = x .machine in
     (chosen (Clocks (m .scalars)) (eqb (m .scalars .running .phase) 0 && not (eqb (interruptChosen (m .scalars .status) (pins .line)) 0))
     (record { adds = refl; size = refl; done = omega arith; mute = λ _. refl })
     (worked-adds (wordAt p (m .scalars .pc)) (length (x .store)) m (x .store) (pins .input)))
-
-pub done-few : (p : List ℕ) (x : Lent) (pins : Pins) (t : After Lent Answer) → t ≡ clockOf paperGeometry p x pins → t .out .done ≤ 1
-done-few p x pins t e = rw e (clock-adds p x pins .done)

@@ -28,7 +28,8 @@ use Rattle.trm_core.specs.declared.record.Scalars.{Scalars}
 use Rattle.trm_core.specs.Record.{gathered, stepping, inPhase, advanced, waited}
 use Rattle.trm_core.specs.Clock.{Moved, moved, writing, filling, writeLine}
 use Rattle.trm_steps.specs.Steps.{Serves}
-use Rattle.trm_plan.specs.Plan.{Good, Does, Writes, Fills}
+use Rattle.trm_plan.specs.Good.{Good}
+use Rattle.trm_plan.proofs.Plan.{Does, Writes, Fills}
 use Rattle.trm_plan.proofs.Laws.Facts.{Facts, facts}
 use Rattle.trm_plan.proofs.Laws.Kinds.{block-at}
 use Rattle.trm_plan.proofs.Laws.Flight.{write-at, fill-at, wait-more, step-more, serial-count}

@@ -20,7 +20,8 @@ use Rattle.trm_core.specs.declared.record.Scalars.{Scalars}
 use Rattle.trm_core.specs.Record.{Lent, gathered, whole, advanced, ended, waited}
 use Rattle.trm_core.specs.Clock.{Moved, moved, worked, unheld, heldClock, clockOf}
 use Rattle.trm_core.proofs.Laws.Rows.{legal-of}
-use Rattle.trm_plan.specs.Plan.{Good, Does}
+use Rattle.trm_plan.specs.Good.{Good}
+use Rattle.trm_plan.proofs.Plan.{Does}
 use Rattle.trm_plan.proofs.Laws.Facts.{good-at}
 use Rattle.trm_plan.proofs.Laws.Worked.{rests, goes-worked}
 use Rattle.trm_ahead.specs.declared.inner.going.Going.{Going}

@@ -30,7 +30,8 @@ use Rattle.trm_core.specs.declared.record.Running.{Running}
 use Rattle.trm_core.specs.declared.record.Scalars.{Scalars}
 use Rattle.trm_core.specs.Record.{Lent, gathered, whole, inPhase, advanced}
 use Rattle.trm_core.specs.Clock.{moved, finish, clockOf}
-use Rattle.trm_plan.specs.Plan.{Good, Does}
+use Rattle.trm_plan.specs.Good.{Good}
+use Rattle.trm_plan.proofs.Plan.{Does}
 use Rattle.trm_plan.proofs.Laws.Facts.{Facts, facts}
 use Rattle.trm_plan.proofs.Laws.Kinds.{load-access, kind-device, kind-cached, hits-at}
 use Rattle.trm_plan.proofs.Laws.Plans.{first-device-load, first-hit-load, idle-running}

@@ -1,7 +1,7 @@
 -- The divider's two registers: before the first step, after k steps by a shift, and from one step to the next.
 -- Idea: t is the top bits of |B|; a step takes one bit more into t, and one digit more into t's quotient by A.
 -- Assumes nothing.
---   above0-pos, -zero, -minus, -true   when A is above 0       quotient-digits   q × a + r has quotient q, remainder r
+--   above0-pos, -true                  when A is above 0       quotient-digits   q × a + r has quotient q, remainder r
 --   magnitude, -le, -plus, -minus      |B|                     rem-is, quot-is   the registers for A above 0
 --   registers-none, div-start, div-closed, div-step            both 0 for A not above 0; before, after k, one more
 use mathlib.Core.Path.{_≡_, refl, sym, ap, ap₂, _∙_, subst}
@@ -14,7 +14,7 @@ use lib.Arith.{digits-div, digits-mod}
 use lib.Dec.{ltb}
 use lib.IntN.{natAbs}
 use lib.Pow.{shr-shr, shr-lt}
-use borrow.Author.Tests.{lt-ltb, le-ltb, ltb-true, ltb-false, not-true, not-false}
+use borrow.Author.Tests.{lt-ltb, ltb-true, ltb-false, not-true, not-false}
 use Rattle.trm_alu.specs.declared.inner.divide.Divider.{Divider}
 use Rattle.trm_alu.specs.Word.{signed}
 use Rattle.trm_alu.specs.Divide.{above0, taken, divRem, divQuot, dividerAt, divTrial, divRest, divStep}
@@ -26,14 +26,6 @@ use Rattle.trm_alu.proofs.Laws.Signed.{Sign, plus, minus, sign}
 pub above0-pos : (a : ℕ) → 0 < a → a < 2 ^ 31 → above0 a ≡ true
 unfolding above0
 above0-pos a h l = rw (lt-ltb 0 a h, lt-ltb a (2 ^ 31) l)
-
-pub above0-zero : (a : ℕ) → a ≡ 0 → above0 a ≡ false
-unfolding above0
-above0-zero a e = rw e
-
-pub above0-minus : (a : ℕ) → 2 ^ 31 ≤ a → above0 a ≡ false
-unfolding above0
-above0-minus a h = rw (lt-ltb 0 a (omega arith), le-ltb a (2 ^ 31) h)
 
 pub above0-true : (a : ℕ) → above0 a ≡ true → (0 < a) × (a < 2 ^ 31)
 unfolding above0

@@ -15,14 +15,14 @@ pub fn biased(x: u32) -> u64
 }
 
 // B + A, exact, plus 2^32.
-fn exact_sum(a: u32, b: u32) -> u64
+fn biased_sum(a: u32, b: u32) -> u64
     ensures { λ r. ⌜ r ≡ biased b + biased a ⌝ }
 {
     biased(b) + biased(a)
 }
 
 // B - A, exact, plus 2^32.
-fn exact_difference(a: u32, b: u32) -> u64
+fn biased_difference(a: u32, b: u32) -> u64
     ensures { λ r. ⌜ r ≡ biased b + 2 ^ 32 - biased a ⌝ }
 {
     biased(b) + 0x1_0000_0000 - biased(a)
@@ -45,23 +45,23 @@ pub fn subtract(a: u32, b: u32) -> u32
 pub fn carry_of_add(a: u32, b: u32) -> u64
     ensures { λ r. ⌜ r ≡ carryOfAdd a b ⌝ }
 {
-    1 - exact_sum(a, b) / 0x1_0000_0000
+    1 - biased_sum(a, b) / 0x1_0000_0000
 }
 
 pub fn carry_of_sub(a: u32, b: u32) -> u64
     ensures { λ r. ⌜ r ≡ carryOfSub a b ⌝ }
 {
-    1 - exact_difference(a, b) / 0x1_0000_0000
+    1 - biased_difference(a, b) / 0x1_0000_0000
 }
 
 pub fn overflow_of_add(a: u32, b: u32) -> u64
     ensures { λ r. ⌜ r ≡ overflowOfAdd a b ⌝ }
 {
-    ((exact_sum(a, b) + 0x8000_0000) / 0x1_0000_0000 + 1) % 2
+    ((biased_sum(a, b) + 0x8000_0000) / 0x1_0000_0000 + 1) % 2
 }
 
 pub fn overflow_of_sub(a: u32, b: u32) -> u64
     ensures { λ r. ⌜ r ≡ overflowOfSub a b ⌝ }
 {
-    ((exact_difference(a, b) + 0x8000_0000) / 0x1_0000_0000 + 1) % 2
+    ((biased_difference(a, b) + 0x8000_0000) / 0x1_0000_0000 + 1) % 2
 }

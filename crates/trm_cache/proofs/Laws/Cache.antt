@@ -11,7 +11,7 @@ use lib.Seq.{getD-set-same, getD-set-other}
 use lib.Dec.{eqb}
 use borrow.Author.Tests.{eqb-true, eq-eqb}
 use native.Mathlib.Decide.{ℕ-discrete}
-use native.Mathlib.Nat.{div-add-mod', mul-add-div-right, mul-add-mod-self-right, mod-eq-of-lt, div-eq-of-lt, mod-lt, add-zero, le-trans}
+use native.Mathlib.Nat.{div-add-mod', mul-add-div-right, div-eq-of-lt, mod-lt, add-zero, le-trans}
 use Rattle.trm_laws.proofs.Tests.{bool-clash, clash}
 use Rattle.trm_reference.specs.Geometry.{Geometry, blockOf, lineOf}
 use Rattle.trm_cache.specs.Cache.{Cache, Line, stride, lineAt, holds, lineView, view, storedTo}
@@ -65,9 +65,6 @@ module _ (G : Geometry) (wpos : 0 < G .words) where
   pub block-at : (b i : ℕ) → i < G .words → blockOf G (b * G .words + i) ≡ b
   unfolding blockOf
   block-at b i h = rw (mul-add-div-right wpos b i, div-eq-of-lt h, add-zero)
-
-  pub offset-at : (b i : ℕ) → i < G .words → (b * G .words + i) % G .words ≡ i
-  offset-at b i h = rw (mul-add-mod-self-right b (G .words) i, mod-eq-of-lt h)
 
   pub address-is : (a : ℕ) → blockOf G a * G .words + a % G .words ≡ a
   unfolding blockOf

@@ -7,7 +7,7 @@ use mathlib.Core.Logic.{_≢_}
 use mathlib.Core.Bool.{Bool, true, false, cond}
 use mathlib.Core.List.{List}
 use lib.ListN.{length, getD, set, take, drop, length-set}
-use lib.Seq.{getD-set-same, getD-set-other, drop-set-add, drop-set-lt, take-set-lt, take-set-le, getD-take, getD-drop}
+use lib.Seq.{getD-set-same, getD-set-other, drop-set-add, drop-set-lt, take-set-lt, take-set-le}
 use lib.Dec.{leb}
 use borrow.Author.Tests.{leb-true, leb-false}
 use native.Mathlib.Omega.{arith}
@@ -80,11 +80,6 @@ module _ (st : ℕ) (ws : List ℕ) where
           ap (take st) (drop-set-lt (k * st) ws (l * st + i) x (omega (arith, suc-mul l st)))
 
 module _ (G : Geometry) (ca : Cache) (l : ℕ) (wd : Wide G ca) (lin : l < G .lines) where
-  -- the word i of line l, in the flat array
-  pub word-at : (i : ℕ) → i < stride G → getD (lineAt G ca l .words) i 0 ≡ getD (ca .words) (l * stride G + i) 0
-  unfolding lineAt
-  word-at i h = getD-take (stride G) (drop (l * stride G) (ca .words)) i 0 h ∙ getD-drop (l * stride G) (ca .words) i 0
-
   pub becomes-same : Becomes G ca l (lineAt G ca l) ca
   becomes-same = record { wide = wd; here = refl; there = λ k n. refl }
 

@@ -13,7 +13,7 @@ ghost use Rattle.trm_reference.specs.Charge.{turnsCacheOff};
 ghost use Rattle.trm_cache.specs.Cache.{cache, allEmptied};
 ghost use Rattle.trm_core.specs.Record.{gathered, whole};
 ghost use Rattle.trm_core.specs.Clock.{cacheAfter, storeAfter, finish};
-ghost use Rattle.trm_plan.specs.Plan.{Good};
+ghost use Rattle.trm_plan.specs.Good.{Good};
 ghost use Rattle.trm_plan.specs.Made.{Late, made};
 use trm_cache::inner::lines;
 use trm_cache::inner::off;
@@ -62,7 +62,7 @@ fn store_at(
     ensures { λ _. ⌜ (cache (now (full .entry)) (now (dirty .exit)) (now (block .entry)) (now (words .exit))
         ≡ cacheAfter paperGeometry w (length (now (store .entry))) (gathered c (now (regs .entry)))
         (cache (now (full .entry)) (now (dirty .entry)) (now (block .entry)) (now (words .entry))))
-        × (now (store .exit) ≡ storeAfter paperGeometry w (length (now (store .entry))) (gathered c (now (regs .entry))) (now
+        × (now (store .exit) ≡ storeAfter w (length (now (store .entry))) (gathered c (now (regs .entry))) (now
         (store .entry))) ⌝ }
 {
     let x = reading::stored_word(c, regs, w);
@@ -89,7 +89,7 @@ fn store_word(
     ensures { λ _. ⌜ (cache (now (full .entry)) (now (dirty .exit)) (now (block .entry)) (now (words .exit))
         ≡ cacheAfter paperGeometry w (length (now (store .entry))) (gathered c (now (regs .entry)))
         (cache (now (full .entry)) (now (dirty .entry)) (now (block .entry)) (now (words .entry))))
-        × (now (store .exit) ≡ storeAfter paperGeometry w (length (now (store .entry))) (gathered c (now (regs .entry))) (now
+        × (now (store .exit) ≡ storeAfter w (length (now (store .entry))) (gathered c (now (regs .entry))) (now
         (store .entry))) ⌝ }
 {
     let place = reading::place_of_word(c, regs, w, store.len() as u64);

@@ -137,7 +137,7 @@ module _ (w : ℕ) where
       fifteen : (x j : ℕ) → x % 16 ≡ suc (suc (suc (suc j))) + 11 → x % 16 ≡ 15
       fifteen x j e = omega arith
 
-  recodes : encodeOf (instructionOf w) ≡ E.Word (unusedZero w)
+  pub recodes : encodeOf (instructionOf w) ≡ E.Word (unusedZero w)
   unfolding instructionOf unusedZero
   recodes = go (ltb (operation w) 11) refl
     where

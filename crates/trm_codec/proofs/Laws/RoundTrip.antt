@@ -23,7 +23,7 @@ use Rattle.trm_codec.specs.Encode.{encodedAs, encodeOf}
 use Rattle.trm_codec.proofs.Laws.Operations.{at-number, number-lt}
 
 -- a word was given, so the test held
-passed : (ok : Bool) (v w : ℕ) → encodedAs ok v ≡ E.Word w → (ok ≡ true) × (w ≡ v)
+pub passed : (ok : Bool) (v w : ℕ) → encodedAs ok v ≡ E.Word w → (ok ≡ true) × (w ≡ v)
 passed true v w h = (refl, cc)
 passed false v w h = let z : _≡_ {A = ℕ} 0 1 = cc in absurd (omega arith)
 

@@ -53,7 +53,7 @@ finish-deaf G w n m s i j = go (isMemory (placeOfWord w (visibleOf m) n)) (isLoa
 
     end : Bool → Bool → Bool → ℕ → After Lent Answer
     end me ld st k = carried (m .scalars) (execute w (visibleOf m) (cond me x k)) (cacheAfter G w n (visibleOf m) (cacheOf m))
-        (storeAfter G w n (visibleOf m) s) (cond ((ld || st) && not me) (out st k) (silent 1))
+        (storeAfter w n (visibleOf m) s) (cond ((ld || st) && not me) (out st k) (silent 1))
 
     go : (me ld : Bool) → isLoad w ≡ ld → (st : Bool) → isStore w ≡ st
         → bit 0 ((cond ((ld || st) && not me) (out st i) (silent 1)) .byte) ≡ 0
@@ -64,9 +64,9 @@ finish-deaf G w n m s i j = go (isMemory (placeOfWord w (visibleOf m) n)) (isLoa
     go false true e true f h = bool-clash (isStore w) f (load-only w e)
     go false true e false f h = absurd (omega arith)
     go false false e true f h = ap (λ y. carried (m .scalars) y (cacheAfter G w n (visibleOf m) (cacheOf m))
-        (storeAfter G w n (visibleOf m) s) (out true i)) (execute-blind w (visibleOf m) i j e)
+        (storeAfter w n (visibleOf m) s) (out true i)) (execute-blind w (visibleOf m) i j e)
     go false false e false f h = ap (λ y. carried (m .scalars) y (cacheAfter G w n (visibleOf m) (cacheOf m))
-        (storeAfter G w n (visibleOf m) s) (silent 1)) (execute-blind w (visibleOf m) i j e)
+        (storeAfter w n (visibleOf m) s) (silent 1)) (execute-blind w (visibleOf m) i j e)
 
 pub deaf : Deaf
 unfolding clockOf unheld worked heldClock
@@ -81,7 +81,7 @@ deaf G p x line i j = go (stalled line)
     n = length (x .store)
 
     clock : Bool → Bool → Bool → ℕ → After Lent Answer
-    clock st ack end k = cond st (heldClock G (x .machine) (x .store))
+    clock st ack end k = cond st (heldClock (x .machine) (x .store))
         (cond ack (carried (x .machine .scalars) (interrupted (visibleOf (x .machine)) (interruptChosen (x .machine .scalars .status) line))
         (cacheOf (x .machine)) (x .store) (silent 0))
         (cond end (finish G w n (x .machine) (x .store) k)
@@ -170,7 +170,7 @@ seen-changes-last G p x pins d n = record { visible = u .visible; answer = u .an
     k = length (x .store)
 
     clock : Bool → Bool → Bool → After Lent Answer
-    clock st ack end = cond st (heldClock G (x .machine) (x .store))
+    clock st ack end = cond st (heldClock (x .machine) (x .store))
         (cond ack (carried (x .machine .scalars)
         (interrupted (visibleOf (x .machine)) (interruptChosen (x .machine .scalars .status) (pins .line)))
         (cacheOf (x .machine)) (x .store) (silent 0))

@@ -120,7 +120,7 @@ module _ (G : Geometry) (p : List ℕ) (n : ℕ) (m : Machine) (s : List ℕ) (s
   }
 
   -- a held clock
-  held-good : Valid G p n m → 16 ≤ length (m .regs) → length s ≡ n → Good G p n (heldClock G m s .state)
+  held-good : Valid G p n m → 16 ≤ length (m .regs) → length s ≡ n → Good G p n (heldClock m s .state)
   unfolding heldClock
   held-good x rg len = record {
     long = len;
@@ -224,7 +224,7 @@ module _ (G : Geometry) (w n : ℕ) (v : Visible) (x : ℕ) (ca : Cache) (fit : 
       stays-on : throughCache w v n ≡ true → turnsCacheOff w v ≡ false
       stays-on th = kind-is w v n .off ∙ ap isClearing (kq th)
 
-store-after : (G : Geometry) (w n : ℕ) (v : Visible) (s : List ℕ) → length (storeAfter G w n v s) ≡ length s
+store-after : (G : Geometry) (w n : ℕ) (v : Visible) (s : List ℕ) → length (storeAfter w n v s) ≡ length s
 unfolding storeAfter
 store-after G w n v s = go (pastCache w v n && isStore w)
   where
@@ -284,7 +284,7 @@ record-kept G p x pins g sh free = go (stalled (pins .line)) refl (acknowledges 
         (record { wide = a .valid .wide; lines = lines-shown G n v (interrupted v to) ca (λ e. interrupted-on v to ∙ e) (a .valid .lines) })
         refl (rw (interrupted-regs v to) (sh .regs)))
     go false st false ac true q = kept _ (clocks-are-three G p x pins .works st ac ∙ worked-last G w n m s (pins .input) (last ∙ q))
-        (ended-good G p n m s (a .size) (a .room) (a .valid .counts) (execute w v loads) (cacheAfter G w n v ca) (storeAfter G w n v s)
+        (ended-good G p n m s (a .size) (a .room) (a .valid .counts) (execute w v loads) (cacheAfter G w n v ca) (storeAfter w n v s)
         (answerOf w v n (pins .input)) (execute-narrow w v loads (a .valid .narrow))
         (after-held G w n v loads ca (a .fit) (a .valid .wide) (a .valid .lines) (m .scalars .running) (eqb-true left 1 q)
         (a .valid .phase))

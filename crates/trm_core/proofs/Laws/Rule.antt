@@ -225,7 +225,7 @@ phase-from G w n k r v ca is ok t = go (eqb (r .phase) 0) refl (eqb (r .phase) 1
     go : (a : Bool) → eqb (r .phase) 0 ≡ a → (b : Bool) → eqb (r .phase) 1 ≡ b → (c : Bool) → eqb (r .phase) 2 ≡ c
         → (d : Bool) → eqb (r .phase) 3 ≡ d → (e : Bool) → eqb (r .phase) 4 ≡ e
         → cond a (eqb (r .count) 0) (cond b (arithmeticOk w (r .count)) (cond c (writebackOk G w n (r .count) v ca)
-        (cond d (refillOk G w n (r .count) v ca) (cond e (waitOk G w n (r .count) v)
+        (cond d (refillOk G w n (r .count) v ca) (cond e (waitOk w n (r .count) v)
         (eqb (r .phase) 5 && eqb (r .count) 0 && dueOk G w n v ca))))) ≡ true
         → Phase G w n k r v ca
     go true a b p c q d x e y = λ z. ready (eqb-true (r .phase) 0 a) (eqb-true (r .count) 0 z)
@@ -275,12 +275,12 @@ valid-from G p n m sh pos = both (widthsOk v && phaseOk G w n r v ca && register
     on : ℕ → Bool
     on l = lineOk G (cacheOn v) n l (lineAt G ca l)
 
-    each : linesOk G (cacheOn v) n ca ≡ true → (l : ℕ) → l < G .lines → marksOk G ca l && on l ≡ true
-    each = below-all (G .lines) (λ l. marksOk G ca l && on l)
+    each : linesOk G (cacheOn v) n ca ≡ true → (l : ℕ) → l < G .lines → marksOk ca l && on l ≡ true
+    each = below-all (G .lines) (λ l. marksOk ca l && on l)
 
-    marks : (l : ℕ) → marksOk G ca l && on l ≡ true → (getD (m .full) l 0 < 2) × (getD (m .dirty) l 0 < 2)
+    marks : (l : ℕ) → marksOk ca l && on l ≡ true → (getD (m .full) l 0 < 2) × (getD (m .dirty) l 0 < 2)
     marks l = all3 (ltb (getD (m .full) l 0) 2) (ltb (getD (m .dirty) l 0) 2) (on l)
         (λ a b c. (ltb-true (getD (m .full) l 0) 2 a, ltb-true (getD (m .dirty) l 0) 2 b))
 
     fits : linesOk G (cacheOn v) n ca ≡ true → (l : ℕ) → l < G .lines → LineFits G (cacheOn v) n l (lineAt G ca l)
-    fits lt l h = both (marksOk G ca l) (on l) (λ a b. line-from G (cacheOn v) n l (lineAt G ca l) b) (each lt l h)
+    fits lt l h = both (marksOk ca l) (on l) (λ a b. line-from G (cacheOn v) n l (lineAt G ca l) b) (each lt l h)

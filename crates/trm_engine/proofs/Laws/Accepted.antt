@@ -1,7 +1,7 @@
 -- What a call that nothing refuses tells: each row's condition, row by row.
 -- Idea: a number of 0 is the last branch of the rows' tests.
 -- Assumes nothing.
---   clock-passed    run-passed
+--   run-passed
 use Prim.Native.Nat.{ℕ, _+_, _≤_}
 use mathlib.Core.Path.{_≡_, refl}
 use mathlib.Core.Bool.{Bool, true, false, cond, not, _||_}
@@ -14,12 +14,7 @@ use Rattle.trm_reference.specs.Geometry.{paperGeometry}
 use Rattle.trm_core.specs.Record.{Machine}
 use Rattle.trm_core.specs.Refusals.{allAtMost, linesRefused}
 use Rattle.trm_core.proofs.Laws.Rows.{Passed, rows-passed}
-use Rattle.trm_core.specs.Refusals.{countRow, clockRows, runRows, clockRefusal, runRefusal}
-
-pub clock-passed : (p : List ℕ) (m : Machine) (s : List ℕ) (line : ℕ) → clockRefusal paperGeometry p m s line ≡ 0
-    → Passed paperGeometry p m s
-unfolding clockRefusal
-clock-passed p m s line q = rows-passed paperGeometry p m s (clockRows (m .scalars .counts .clocks) line) q .0
+use Rattle.trm_core.specs.Refusals.{countRow, runRows, runRefusal}
 
 -- the run's own rows
 pub record Runs (m : Machine) (lines inputs bytes words : List ℕ) : Type 0 where

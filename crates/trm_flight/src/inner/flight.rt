@@ -10,7 +10,7 @@ ghost use Rattle.trm_reference.specs.Geometry.{paperGeometry};
 ghost use Rattle.trm_cache.specs.Cache.{cache};
 ghost use Rattle.trm_core.specs.Record.{whole};
 ghost use Rattle.trm_core.specs.Clock.{worked};
-ghost use Rattle.trm_plan.specs.Plan.{Good};
+ghost use Rattle.trm_plan.specs.Good.{Good};
 ghost use Rattle.trm_plan.specs.Made.{made};
 use trm_cache::inner::lines;
 use trm_core::record::Scalars;

@@ -16,11 +16,12 @@ use Rattle.trm_laws.proofs.Tests.{_&t_}
 use Rattle.trm_image.specs.Records.{lengthAt, kindAt, wordsAt, begins, recordsOf}
 use Rattle.trm_image.specs.Refused.{Refused, firstFault, storeFault, imageFault}
 use Rattle.trm_image.specs.Meaning.{payloadWords, wordsIn, runsIn, imageOf}
+use Rattle.trm_image.specs.Runs.{Runs}
 use Rattle.trm_image.proofs.Laws.Walk.{next}
 use Rattle.trm_image.proofs.Laws.Clean.{Clean, Order, is-first, is-second, is-run, ordered}
 use Rattle.trm_image.proofs.Laws.Clean.{FirstPart, SecondPart, first-part, second-part}
 use Rattle.trm_image.proofs.Laws.Runs.{later-free, here-clean, here-whole, runs-no-words}
-pub use Rattle.trm_image.proofs.Laws.Runs.{Runs, Next, runs-next, runs-end}
+pub use Rattle.trm_image.proofs.Laws.Runs.{Next, runs-next, runs-end}
 
 -- the tests of the whole image
 record Passed (n : ℕ) (s : List ℕ) : Type 0 where

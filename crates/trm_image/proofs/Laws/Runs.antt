@@ -13,6 +13,7 @@ use borrow.Author.Tests.{eqb-false}
 use Rattle.trm_image.specs.Records.{lengthAt, kindAt, begins}
 use Rattle.trm_image.specs.Refused.{countAt, lineAt, faultAt, firstFault}
 use Rattle.trm_image.specs.Meaning.{runAt, wordsIn, runsIn}
+use Rattle.trm_image.specs.Runs.{Runs}
 use Rattle.trm_image.proofs.Laws.Walk.{next, ended, fault-here, fault-later, whole-record}
 use Rattle.trm_image.proofs.Laws.Clean.{Clean, clean, Order, is-first, is-second, is-run, ordered, run-part}
 
@@ -35,14 +36,6 @@ module _ (n : ℕ) (s : List ℕ) (before at : ℕ) (h : at < length s)
 
   pub here-whole : at + 6 + lengthAt s at ≤ length s
   here-whole = whole-record n s before at (omega arith) here-free
-
--- only runs are left from this place on
-pub record Runs (n : ℕ) (s : List ℕ) (at : ℕ) : Type 0 where
-  pub before : ℕ
-  pub some : before ≡ 0 → ⊥
-  pub later : before ≡ 1 → kindAt s at ≡ 2 → ⊥
-  pub free : firstFault n s before (begins 0 at (drop at s)) .number ≡ 0
-  pub inside : at ≤ length s
 
 -- the run here and the runs after it
 pub record Next (n : ℕ) (s : List ℕ) (at : ℕ) : Type 0 where

@@ -15,8 +15,9 @@ use Rattle.trm_image.specs.Records.{lengthAt, kindAt, begins}
 use Rattle.trm_image.specs.Refused.{countAt, lineAt, inputAt}
 use Rattle.trm_image.specs.Meaning.{payloadWords, runsIn}
 use Rattle.trm_image.specs.Written.{bytes2, bytes4, wordBytes, recordBytes, runBytes, runsOk}
+use Rattle.trm_image.specs.Runs.{Runs}
 use Rattle.trm_image.proofs.Laws.Bytes.{one-byte, two-bytes, four-bytes, word-bytes, le4-small, length-wordBytes}
-use Rattle.trm_image.proofs.Laws.Accepted.{Runs, Next, runs-next, runs-end, length-wordsAt}
+use Rattle.trm_image.proofs.Laws.Accepted.{Next, runs-next, runs-end, length-wordsAt}
 
 -- the words of a payload of whole words
 pub length-payload : (s : List ℕ) (at : ℕ) → length (payloadWords s at) ≡ lengthAt s at / 4

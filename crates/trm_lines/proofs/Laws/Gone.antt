@@ -1,16 +1,16 @@
 -- Clocks of a word in flight that carry nothing out: they have no line, and the word goes on.
 -- Idea: a run of so many clocks with the same pins, of which none carried a word out.
 -- Assumes nothing.
-use Prim.Native.Nat.{ℕ, zero, suc, _+_, _-_, _≤_}
+use Prim.Native.Nat.{ℕ, zero, suc, _+_, _-_, _≤_, _<_}
 use mathlib.Core.Path.{_≡_, refl, sym, ap, _∙_, subst}
 use mathlib.Core.Logic.{_≢_}
-use mathlib.Core.Bool.{true, false, cond}
+use mathlib.Core.Bool.{Bool, true, false, cond}
 use mathlib.Core.List.{List, [], _∷_, _++_, append-assoc}
 use native.Mathlib.Omega.{arith}
 use native.Mathlib.Nat.{le-of-suc-le-suc}
 use lib.ListN.{length, take, replicate, length-replicate}
-use lib.Dec.{eqb}
-use borrow.Author.Tests.{eq-eqb, ne-eqb, le-leb}
+use lib.Dec.{eqb, ltb}
+use borrow.Author.Tests.{eq-eqb, ne-eqb, le-leb, ltb-true, ltb-false}
 use Rattle.trm_laws.proofs.Tests.{_&t_}
 use Rattle.trm_reference.specs.Geometry.{paperGeometry}
 use Rattle.trm_reference.specs.Visible.{wordAt}
@@ -21,7 +21,7 @@ use Rattle.trm_core.specs.Record.{Lent, whole}
 use Rattle.trm_core.specs.Clock.{clockOf}
 use Rattle.trm_core.specs.Refusals.{allAtMost}
 use Rattle.trm_core.proofs.Laws.Rows.{legal-of}
-use Rattle.trm_plan.specs.Plan.{Good}
+use Rattle.trm_plan.specs.Good.{Good}
 use Rattle.trm_plan.proofs.Laws.Facts.{good-at}
 use Rattle.trm_ahead.specs.Reached.{Point, hist, Feed, Reached, Under, Quietly}
 use Rattle.trm_ahead.proofs.Laws.Reached.{reached-none}
@@ -41,6 +41,20 @@ pub taken-idle : (x : Lent) (i : Pins) (to : ℕ) → x .machine .scalars .runni
     → to ≡ interruptChosen (x .machine .scalars .status) (i .line) → interruptAt x i ≡ to
 unfolding interruptAt
 taken-idle x i to z e = rw (eq-eqb (x .machine .scalars .running .phase) 0 z) (sym e)
+
+-- the smaller of two is at most each
+pub least-bounds : (a b r : ℕ) → r ≡ cond (ltb a b) a b → (r ≤ a) × (r ≤ b)
+least-bounds a b r e = go (ltb a b) refl
+  where
+    go : (t : Bool) → ltb a b ≡ t → (r ≤ a) × (r ≤ b)
+    go true h =
+        let x : r ≡ a = e ∙ ap (λ (t : Bool). cond t a b) h in
+        let l : a < b = ltb-true a b h in
+        (omega arith, omega arith)
+    go false h =
+        let x : r ≡ b = e ∙ ap (λ (t : Bool). cond t a b) h in
+        let l : b ≤ a = ltb-false a b h in
+        (omega arith, omega arith)
 
 -- lists of the same pins
 pins-same : (m a b : ℕ) → pinsOf (replicate m a) (replicate m b) ≡ replicate m (record { line = a; input = b })

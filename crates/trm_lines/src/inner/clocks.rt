@@ -3,9 +3,10 @@
 // Clocks that cannot end a word go in one piece; each other clock stands alone, so that its line is known.
 ghost use mathlib.Core.Path.{_≡_};
 ghost use mathlib.Core.Logic.{_≢_};
-ghost use mathlib.Core.Bool.{false};
+ghost use mathlib.Core.Bool.{false, cond};
 ghost use mathlib.Core.List.{List};
 ghost use Prim.Native.Nat.{ℕ, _+_, _≤_, _<_};
+ghost use lib.Dec.{ltb};
 ghost use lib.ListN.{length};
 ghost use Rattle.trm_word.specs.Charge.{charges};
 ghost use Rattle.trm_reference.specs.Interrupt.{stalled, interruptChosen};
@@ -21,7 +22,7 @@ use trm_walk::inner::flight;
 
 // The smaller of two.
 fn least(a: usize, b: usize) -> usize
-    ensures { λ r. ⌜ (r ≤ a) × (r ≤ b) ⌝ }
+    ensures { λ r. ⌜ r ≡ cond (ltb a b) a b ⌝ }
 {
     if a < b {
         return a;

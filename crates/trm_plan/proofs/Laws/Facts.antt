@@ -28,7 +28,7 @@ use Rattle.trm_core.proofs.Laws.Fit.{Fit, fit, below-all, line-in}
 use Rattle.trm_core.proofs.Laws.Kind.{kindOf, kind-is, uncached, is-of, waits-are}
 use Rattle.trm_core.proofs.Laws.Rule.{LineFits, line-from, CountsFit, counts-from, Registers, registers-from, widths-from, phase-from}
 use Rattle.trm_core.proofs.Laws.Rule.{Phase, ready, arithmetic, writeBack, clearingOff, refill, waiting, due}
-use Rattle.trm_plan.specs.Plan.{Good}
+use Rattle.trm_plan.specs.Good.{Good}
 
 pub paper-ok : geometryOk paperGeometry ≡ true
 unfolding geometryOk oneOf
@@ -37,9 +37,9 @@ paper-ok = refl
 pub lines-fit : (n : ℕ) (c : Scalars) (rs : List ℕ) (ca : Cache) → linesOk paperGeometry (cacheOn (gathered c rs)) n ca ≡ true
     → (l : ℕ) → l < 16 → LineFits paperGeometry (cacheOn (gathered c rs)) n l (lineAt paperGeometry ca l)
 unfolding linesOk
-lines-fit n c rs ca t l h = both (marksOk paperGeometry ca l) (lineOk paperGeometry on n l (lineAt paperGeometry ca l))
+lines-fit n c rs ca t l h = both (marksOk ca l) (lineOk paperGeometry on n l (lineAt paperGeometry ca l))
     (λ a b. line-from paperGeometry on n l (lineAt paperGeometry ca l) b)
-    (below-all 16 (λ k. marksOk paperGeometry ca k && lineOk paperGeometry on n k (lineAt paperGeometry ca k)) t l h)
+    (below-all 16 (λ k. marksOk ca k && lineOk paperGeometry on n k (lineAt paperGeometry ca k)) t l h)
   where
     on : Bool
     on = cacheOn (gathered c rs)

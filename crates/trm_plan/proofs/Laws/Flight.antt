@@ -27,8 +27,8 @@ use Rattle.trm_core.proofs.Laws.Kind.{Kind, quick, second, longer, device, cach
 use Rattle.trm_core.proofs.Laws.Phases.{due-is, last-1, last-2, last-3, last-4, last-5}
 use Rattle.trm_core.proofs.Laws.Phases.{advance-1, advance-2-cached, advance-2-clearing, advance-3, advance-4}
 use Rattle.trm_core.proofs.Laws.Rule.{Phase, ready, arithmetic, writeBack, clearingOff, refill, waiting, due}
-use Rattle.trm_plan.specs.Plan.{Writes, Fills, Plan}
-use Rattle.trm_plan.specs.Plan.{Finish, Step, Write, Fill, Wait}
+use Rattle.trm_plan.proofs.Plan.{Writes, Fills, Plan}
+use Rattle.trm_plan.proofs.Plan.{Finish, Step, Write, Fill, Wait}
 use Rattle.trm_plan.proofs.Laws.Facts.{Facts, few-waits}
 use Rattle.trm_plan.proofs.Laws.Plans.{idle-ended}
 

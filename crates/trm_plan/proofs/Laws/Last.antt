@@ -21,8 +21,8 @@ use Rattle.trm_reference.specs.Execute.{execute}
 use Rattle.trm_reference.specs.Charge.{throughCache, pastCache, turnsCacheOff}
 use Rattle.trm_cache.specs.Cache.{Cache, view, storedTo, allEmptied}
 use Rattle.trm_core.specs.declared.record.Scalars.{Scalars}
-use Rattle.trm_core.specs.Record.{gathered, whole, ended, waited}
-use Rattle.trm_core.specs.Clock.{carried, cacheAfter, storeAfter, finish, heldClock}
+use Rattle.trm_core.specs.Record.{gathered, whole, ended}
+use Rattle.trm_core.specs.Clock.{carried, cacheAfter, storeAfter, finish}
 use Rattle.trm_core.proofs.Laws.Fit.{fit, target-in}
 use Rattle.trm_core.proofs.Laws.Deaf.{answer-done}
 use Rattle.trm_plan.specs.declared.inner.outcome.Clocked.{Clocked}
@@ -65,28 +65,28 @@ module _ (w n : ℕ) (v : Visible) (ca : Cache) where
   other-cache n11 n12 n13 = rw (ne-eqb (operation w) 11 n11, ne-eqb (operation w) 12 n12, ne-eqb (operation w) 13 n13)
 
 module _ (w n : ℕ) (v : Visible) (s : List ℕ) where
-  pub control-store : operation w ≡ 11 → storeAfter paperGeometry w n v s ≡ s
+  pub control-store : operation w ≡ 11 → storeAfter w n v s ≡ s
   unfolding storeAfter pastCache toMemory isAccess isLoad isStore
   control-store o = rw o
 
-  pub load-store : operation w ≡ 12 → storeAfter paperGeometry w n v s ≡ s
+  pub load-store : operation w ≡ 12 → storeAfter w n v s ≡ s
   unfolding storeAfter isStore
   load-store o = rw (o, and-false (pastCache w v n))
 
-  pub device-store : operation w ≡ 13 → (d : ℕ) → placeOfWord w v n ≡ Device d → storeAfter paperGeometry w n v s ≡ s
+  pub device-store : operation w ≡ 13 → (d : ℕ) → placeOfWord w v n ≡ Device d → storeAfter w n v s ≡ s
   unfolding storeAfter pastCache toMemory isMemory
   device-store o d p = rw (p, and-false (isAccess w))
 
-  pub cached-store : operation w ≡ 13 → cacheOn v ≡ true → storeAfter paperGeometry w n v s ≡ s
+  pub cached-store : operation w ≡ 13 → cacheOn v ≡ true → storeAfter w n v s ≡ s
   unfolding storeAfter pastCache
   cached-store o on = rw (on, and-false (toMemory w v n))
 
   pub uncached-store : operation w ≡ 13 → (a : ℕ) → placeOfWord w v n ≡ Memory a → cacheOn v ≡ false
-      → storeAfter paperGeometry w n v s ≡ set s a (stored w v)
+      → storeAfter w n v s ≡ set s a (stored w v)
   unfolding storeAfter pastCache toMemory isAccess isLoad isStore isMemory target memoryIndex
   uncached-store o a p off = rw (p, o, off)
 
-  pub other-store : operation w ≢ 12 → operation w ≢ 13 → storeAfter paperGeometry w n v s ≡ s
+  pub other-store : operation w ≢ 12 → operation w ≢ 13 → storeAfter w n v s ≡ s
   unfolding storeAfter pastCache toMemory isAccess isLoad isStore
   other-store n12 n13 = rw (ne-eqb (operation w) 12 n12, ne-eqb (operation w) 13 n13)
 
@@ -114,7 +114,7 @@ told a e = ap (λ d. record { byte = a .byte; word = a .word; done = d }) (sym e
 
 pub last-made : (w n : ℕ) (c : Scalars) (rs : List ℕ) (ca : Cache) (s : List ℕ) (i x : ℕ) (r : Clocked) (rs′ : List ℕ) (ca′ : Cache)
     (s′ : List ℕ) → r .scalars ≡ ended c (execute w (gathered c rs) x) → rs′ ≡ execute w (gathered c rs) x .regs
-    → ca′ ≡ cacheAfter paperGeometry w n (gathered c rs) ca → s′ ≡ storeAfter paperGeometry w n (gathered c rs) s
+    → ca′ ≡ cacheAfter paperGeometry w n (gathered c rs) ca → s′ ≡ storeAfter w n (gathered c rs) s
     → (isLoad w ≡ true → x ≡ loaded w (gathered c rs) n i (view paperGeometry ca s (target w (gathered c rs) n)))
     → r .byte ≡ answerOf w (gathered c rs) n i .byte → r .word ≡ answerOf w (gathered c rs) n i .word → r .done ≡ 1
     → made r rs′ ca′ s′ ≡ finish paperGeometry w n (whole c rs ca) s i
@@ -122,10 +122,5 @@ unfolding finish
 last-made w n c rs ca s i x r rs′ ca′ s′ q1 q2 q3 q4 l b o d =
     rw (q1, q2, q3, q4, b, o, d, execute-load w (gathered c rs) x _ l)
     (ap (λ a. carried c (execute w (gathered c rs) (loaded w (gathered c rs) n i (view paperGeometry ca s (target w (gathered c rs) n))))
-    (cacheAfter paperGeometry w n (gathered c rs) ca) (storeAfter paperGeometry w n (gathered c rs) s) a)
+    (cacheAfter paperGeometry w n (gathered c rs) ca) (storeAfter w n (gathered c rs) s) a)
     (told (answerOf w (gathered c rs) n i) (answer-done w (gathered c rs) n i)))
-
-pub held-made : (c : Scalars) (rs : List ℕ) (ca : Cache) (s : List ℕ) (r : Clocked)
-    → r ≡ record { scalars = waited c; byte = 0; word = 0; done = 0 } → made r rs ca s ≡ heldClock paperGeometry (whole c rs ca) s
-unfolding heldClock
-held-made c rs ca s r q = ap (λ t. made t rs ca s) q

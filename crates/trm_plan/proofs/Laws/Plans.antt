@@ -28,8 +28,8 @@ use Rattle.trm_core.proofs.Laws.Kind.{Kind, quick, second, longer, device, cach
 use Rattle.trm_core.proofs.Laws.Phases.{charge-is, last-0}
 use Rattle.trm_core.proofs.Laws.Phases.{advance-0}
 use Rattle.trm_core.proofs.Laws.Rule.{Phase, ready, arithmetic, writeBack, clearingOff, refill, waiting, due}
-use Rattle.trm_plan.specs.Plan.{Ended, Does, Misses, Plan}
-use Rattle.trm_plan.specs.Plan.{Finish, Step, Write, Miss, Wait, Due}
+use Rattle.trm_plan.proofs.Plan.{Ended, Does, Misses, Plan}
+use Rattle.trm_plan.proofs.Plan.{Finish, Step, Write, Miss, Wait, Due}
 use Rattle.trm_plan.proofs.Laws.Facts.{Facts}
 use Rattle.trm_plan.proofs.Laws.Kinds.{line-at, target-at, hits-at}
 

@@ -131,7 +131,7 @@ module _ (w n : ℕ) (c : Scalars) (rs : List ℕ) (ca : Cache) (s : List ℕ) (
 
   -- ST to memory and to a device
   pub store-made : operation w ≡ 13 → toMemory w seen n ≡ true → (r : Clocked) (after : Scalars) (rs′ : List ℕ) (ca′ : Cache) (s′ : List ℕ)
-      → ca′ ≡ cacheAfter paperGeometry w n seen ca → s′ ≡ storeAfter paperGeometry w n seen s
+      → ca′ ≡ cacheAfter paperGeometry w n seen ca → s′ ≡ storeAfter w n seen s
       → r ≡ shows after 0 0 → after ≡ ended c (execute w seen 0) → rs′ ≡ execute w seen 0 .regs
       → made r rs′ ca′ s′ ≡ finish paperGeometry w n (whole c rs ca) s i
   store-made o t r after rs′ ca′ s′ g h q e f =
@@ -183,7 +183,7 @@ module _ (w n : ℕ) (v : Visible) where
   past-cache ca a b = rw (a, b)
 
   pub past-store : (s : List ℕ) → pastCache w v n ≡ true → isStore w ≡ true
-      → storeAfter paperGeometry w n v s ≡ set s (target w v n) (stored w v)
+      → storeAfter w n v s ≡ set s (target w v n) (stored w v)
   unfolding storeAfter
   past-store s a b = rw (a, b)
 

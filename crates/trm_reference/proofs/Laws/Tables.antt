@@ -28,8 +28,8 @@ use Rattle.trm_reference.specs.Reference.{referenceUnheld, referenceCloc
 use Rattle.trm_reference.specs.Tables.{Row, AllHold, ranWith, ran, stateAfter, finishes, changedFrom, shown, restOf}
 use Rattle.trm_reference.specs.Tables.Starred.{arithmetic, placed, starred}
 use Rattle.trm_reference.specs.Tables.ClockTable.{clockTable}
-use Rattle.trm_reference.specs.Tables.Executed.{executed}
-use Rattle.trm_reference.specs.Tables.Accesses.{answered, kept, accesses}
+use Rattle.trm_reference.specs.Tables.Executed.{takenUnder, executed}
+use Rattle.trm_reference.specs.Tables.Accesses.{answeredTo, kept, accesses}
 use Rattle.trm_reference.specs.Tables.Interrupts.{reached, interrupts}
 use Rattle.trm_reference.specs.Tables.Histories.{judged, counted, finishedAt, histories}
 use Rattle.trm_reference.specs.Tables.Stalls.{stalledRun, answersOf, stalls}
@@ -55,7 +55,7 @@ record Passed : Type 0 where
 passed : Passed
 unfolding test same
     starred clockTable executed accesses interrupts histories stalls ranWith ran stateAfter finishes arithmetic placed changedFrom shown
-    answered kept reached restOf judged counted finishedAt stalledRun answersOf
+    takenUnder answeredTo kept reached restOf judged counted finishedAt stalledRun answersOf
     signed word product lowWord highWord above0 floorDiv floorMod quotient remainder exactSum exactDifference sum difference ror
     shortResult resultOf highOf negative tooWide carryOfAdd carryOfSub overflowOfAdd overflowOfSub signFlag zeroFlag carryAfter
     overflowAfter flagsAfter flagsOf

@@ -2,15 +2,29 @@
 -- Paper: "What a programmer sees", from 0 MOV to 15, and the program words beyond the lent ones.
 -- Assumes nothing.
 use Prim.Native.Nat.{ℕ, _+_}
+use mathlib.Core.Bool.{cond}
 use mathlib.Core.List.{List, [], _∷_}
 use Rattle.trm_reference.specs.Visible.{Visible, wordAt}
-use Rattle.trm_reference.specs.Execute.{execute}
+use Rattle.trm_reference.specs.Execute.{execute, branchTaken}
 use Rattle.trm_reference.specs.Tables.{Row, row, wordOf, literalWord, registerWord, statusWord, jumpWord, loadWord, storeWord}
-use Rattle.trm_reference.specs.Tables.{branchWord, callWord, seen, shown}
+use Rattle.trm_reference.specs.Tables.{branchWord, callWord, holding, seen, shown}
 
 -- what is shown once the word is carried out; LD loads BEEFH
 abbrev pub carried : ℕ → Visible → List ℕ
 carried w v = shown v (execute w v 0xBEEF)
+
+-- 1 if a branch under condition k is taken, with these flags
+abbrev pub takenWith : ℕ → ℕ → ℕ → ℕ → ℕ → ℕ
+takenWith k n z c v = cond (branchTaken (branchWord k 5) (seen 0x123 n z c v 0)) 1 0
+
+-- the same for NZCV 0000, 0001, 0010 and so on up to 1111
+unfoldable pub takenUnder : ℕ → List ℕ
+takenUnder k =
+    takenWith k 0 0 0 0 ∷ takenWith k 0 0 0 1 ∷ takenWith k 0 0 1 0 ∷ takenWith k 0 0 1 1
+    ∷ takenWith k 0 1 0 0 ∷ takenWith k 0 1 0 1 ∷ takenWith k 0 1 1 0 ∷ takenWith k 0 1 1 1
+    ∷ takenWith k 1 0 0 0 ∷ takenWith k 1 0 0 1 ∷ takenWith k 1 0 1 0 ∷ takenWith k 1 0 1 1
+    ∷ takenWith k 1 1 0 0 ∷ takenWith k 1 1 0 1 ∷ takenWith k 1 1 1 0 ∷ takenWith k 1 1 1 1
+    ∷ []
 
 unfoldable pub executed : List Row
 executed =
@@ -28,6 +42,9 @@ executed =
     ∷ row (carried (jumpWord 3 3 6) (seen 0x123 1 0 1 0 15)) (0xABC ∷ 0x8000_0005 ∷ 0 ∷ 1 ∷ 0 ∷ 1 ∷ 11 ∷ [])
     ∷ row (carried (jumpWord 1 3 6) (seen 0x123 0 1 0 1 3)) (0xFFF ∷ 0x8000_0005 ∷ 1 ∷ 0 ∷ 1 ∷ 0 ∷ 3 ∷ [])
     ∷ row (carried (jumpWord 3 3 6) (seen 0x123 0 1 0 1 3)) (0xFFF ∷ 0x8000_0005 ∷ 1 ∷ 0 ∷ 1 ∷ 0 ∷ 3 ∷ [])
+    -- the flags 1100 and 0110, which tell every two of them apart: by R1, from PC 0, H 0 and flags that are all clear
+    ∷ row (carried (jumpWord 1 3 1) (holding 0xC000_0ABC 0 3)) (0xABC ∷ 0 ∷ 1 ∷ 1 ∷ 0 ∷ 0 ∷ 3 ∷ [])
+    ∷ row (carried (jumpWord 3 3 1) (holding 0x6000_0ABC 0 3)) (0xABC ∷ 0 ∷ 0 ∷ 1 ∷ 1 ∷ 0 ∷ 3 ∷ [])
     -- "14: .. PC := PC+1+signed bits 9–0": by 5, by 511, by −1 and by −512
     ∷ row (carried (branchWord 14 5) (seen 0x123 0 0 0 0 0)) (0x129 ∷ 0x8000_0005 ∷ 0 ∷ 0 ∷ 0 ∷ 0 ∷ 0 ∷ [])
     ∷ row (carried (branchWord 14 511) (seen 0x123 0 0 0 0 0)) (0x323 ∷ 0x8000_0005 ∷ 0 ∷ 0 ∷ 0 ∷ 0 ∷ 0 ∷ [])
@@ -48,6 +65,24 @@ executed =
     ∷ row (carried (branchWord 2 5) (seen 0x123 1 1 0 1 0)) (0x124 ∷ 0x8000_0005 ∷ 1 ∷ 1 ∷ 0 ∷ 1 ∷ 0 ∷ [])
     ∷ row (carried (branchWord 4 5) (seen 0x123 0 1 1 1 0)) (0x124 ∷ 0x8000_0005 ∷ 0 ∷ 1 ∷ 1 ∷ 1 ∷ 0 ∷ [])
     ∷ row (carried (branchWord 6 5) (seen 0xFFF 1 1 1 0 0)) (0 ∷ 0x8000_0005 ∷ 1 ∷ 1 ∷ 1 ∷ 0 ∷ 0 ∷ [])
+    -- "Conditions 0–15: Z; not Z; C; not C; N; not N; V; not V; C and not Z; its opposite; N=V; N≠V; N=V and not Z; its opposite;
+    -- always; never": each under the sixteen NZCV
+    ∷ row (takenUnder 0) (0 ∷ 0 ∷ 0 ∷ 0 ∷ 1 ∷ 1 ∷ 1 ∷ 1 ∷ 0 ∷ 0 ∷ 0 ∷ 0 ∷ 1 ∷ 1 ∷ 1 ∷ 1 ∷ [])
+    ∷ row (takenUnder 1) (1 ∷ 1 ∷ 1 ∷ 1 ∷ 0 ∷ 0 ∷ 0 ∷ 0 ∷ 1 ∷ 1 ∷ 1 ∷ 1 ∷ 0 ∷ 0 ∷ 0 ∷ 0 ∷ [])
+    ∷ row (takenUnder 2) (0 ∷ 0 ∷ 1 ∷ 1 ∷ 0 ∷ 0 ∷ 1 ∷ 1 ∷ 0 ∷ 0 ∷ 1 ∷ 1 ∷ 0 ∷ 0 ∷ 1 ∷ 1 ∷ [])
+    ∷ row (takenUnder 3) (1 ∷ 1 ∷ 0 ∷ 0 ∷ 1 ∷ 1 ∷ 0 ∷ 0 ∷ 1 ∷ 1 ∷ 0 ∷ 0 ∷ 1 ∷ 1 ∷ 0 ∷ 0 ∷ [])
+    ∷ row (takenUnder 4) (0 ∷ 0 ∷ 0 ∷ 0 ∷ 0 ∷ 0 ∷ 0 ∷ 0 ∷ 1 ∷ 1 ∷ 1 ∷ 1 ∷ 1 ∷ 1 ∷ 1 ∷ 1 ∷ [])
+    ∷ row (takenUnder 5) (1 ∷ 1 ∷ 1 ∷ 1 ∷ 1 ∷ 1 ∷ 1 ∷ 1 ∷ 0 ∷ 0 ∷ 0 ∷ 0 ∷ 0 ∷ 0 ∷ 0 ∷ 0 ∷ [])
+    ∷ row (takenUnder 6) (0 ∷ 1 ∷ 0 ∷ 1 ∷ 0 ∷ 1 ∷ 0 ∷ 1 ∷ 0 ∷ 1 ∷ 0 ∷ 1 ∷ 0 ∷ 1 ∷ 0 ∷ 1 ∷ [])
+    ∷ row (takenUnder 7) (1 ∷ 0 ∷ 1 ∷ 0 ∷ 1 ∷ 0 ∷ 1 ∷ 0 ∷ 1 ∷ 0 ∷ 1 ∷ 0 ∷ 1 ∷ 0 ∷ 1 ∷ 0 ∷ [])
+    ∷ row (takenUnder 8) (0 ∷ 0 ∷ 1 ∷ 1 ∷ 0 ∷ 0 ∷ 0 ∷ 0 ∷ 0 ∷ 0 ∷ 1 ∷ 1 ∷ 0 ∷ 0 ∷ 0 ∷ 0 ∷ [])
+    ∷ row (takenUnder 9) (1 ∷ 1 ∷ 0 ∷ 0 ∷ 1 ∷ 1 ∷ 1 ∷ 1 ∷ 1 ∷ 1 ∷ 0 ∷ 0 ∷ 1 ∷ 1 ∷ 1 ∷ 1 ∷ [])
+    ∷ row (takenUnder 10) (1 ∷ 0 ∷ 1 ∷ 0 ∷ 1 ∷ 0 ∷ 1 ∷ 0 ∷ 0 ∷ 1 ∷ 0 ∷ 1 ∷ 0 ∷ 1 ∷ 0 ∷ 1 ∷ [])
+    ∷ row (takenUnder 11) (0 ∷ 1 ∷ 0 ∷ 1 ∷ 0 ∷ 1 ∷ 0 ∷ 1 ∷ 1 ∷ 0 ∷ 1 ∷ 0 ∷ 1 ∷ 0 ∷ 1 ∷ 0 ∷ [])
+    ∷ row (takenUnder 12) (1 ∷ 0 ∷ 1 ∷ 0 ∷ 0 ∷ 0 ∷ 0 ∷ 0 ∷ 0 ∷ 1 ∷ 0 ∷ 1 ∷ 0 ∷ 0 ∷ 0 ∷ 0 ∷ [])
+    ∷ row (takenUnder 13) (0 ∷ 1 ∷ 0 ∷ 1 ∷ 1 ∷ 1 ∷ 1 ∷ 1 ∷ 1 ∷ 0 ∷ 1 ∷ 0 ∷ 1 ∷ 1 ∷ 1 ∷ 1 ∷ [])
+    ∷ row (takenUnder 14) (1 ∷ 1 ∷ 1 ∷ 1 ∷ 1 ∷ 1 ∷ 1 ∷ 1 ∷ 1 ∷ 1 ∷ 1 ∷ 1 ∷ 1 ∷ 1 ∷ 1 ∷ 1 ∷ [])
+    ∷ row (takenUnder 15) (0 ∷ 0 ∷ 0 ∷ 0 ∷ 0 ∷ 0 ∷ 0 ∷ 0 ∷ 0 ∷ 0 ∷ 0 ∷ 0 ∷ 0 ∷ 0 ∷ 0 ∷ 0 ∷ [])
     -- "Program words beyond the lent ones are 3BC00H (branch never)": of a program of two words
     ∷ row
     (wordAt (7 ∷ 8 ∷ []) 0 ∷ wordAt (7 ∷ 8 ∷ []) 1 ∷ wordAt (7 ∷ 8 ∷ []) 2 ∷ wordAt (7 ∷ 8 ∷ []) 4095 ∷ [])

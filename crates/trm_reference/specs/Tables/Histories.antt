@@ -31,9 +31,12 @@ finishedAt p q n = finishes (ran p q (quiet n)) ++ counted p q n
 abbrev pub joined : Reference → ℕ → ℕ → ℕ → Row
 joined q w n events = row (length (stateAfter (w ∷ []) q (quiet n) .history) ∷ []) (events ∷ [])
 
--- LD R3 from 128, which is of block 16 and line 0; 11 clearing status bit 3
+-- LD R3 from 128, which is of block 16 and line 0; ST R3 to it; 11 clearing status bit 3
 abbrev pub loads128 : List ℕ
 loads128 = loadWord 3 7 128 ∷ []
+
+abbrev pub stores128 : List ℕ
+stores128 = storeWord 3 7 128 ∷ []
 
 abbrev pub turnsOff : List ℕ
 turnsOff = statusWord 0 ∷ []
@@ -90,6 +93,10 @@ histories =
     ∷ row (counted loads128 (cacheWith (storeOf 0 ∷ [])) 20) (0 ∷ 1 ∷ [])
     ∷ row (counted loads128 (cacheWith (storeOf 0 ∷ [])) 21) (1 ∷ 1 ∷ [])
     ∷ row (counted loads128 (cacheWith (storeOf 0 ∷ [])) 22) (1 ∷ 1 ∷ [])
+    -- a dirty miss of ST
+    ∷ row (counted stores128 (cacheWith (storeOf 0 ∷ [])) 10) (0 ∷ 0 ∷ [])
+    ∷ row (counted stores128 (cacheWith (storeOf 0 ∷ [])) 11) (0 ∷ 1 ∷ [])
+    ∷ row (counted stores128 (cacheWith (storeOf 0 ∷ [])) 21) (1 ∷ 1 ∷ [])
     -- "Turning the cache off does its tens first, then one last clock": two dirty lines
     ∷ row (counted turnsOff (cacheWith (storeOf 1 ∷ storeOf 0 ∷ [])) 9) (0 ∷ 0 ∷ [])
     ∷ row (counted turnsOff (cacheWith (storeOf 1 ∷ storeOf 0 ∷ [])) 10) (0 ∷ 1 ∷ [])

@@ -71,13 +71,20 @@ interrupts =
     ∷ chosen 1 2 0
     ∷ chosen 5 1 0
     ∷ chosen 7 3 0
-    -- "bank 1's R7 := NZCV in bits 31–28, zeros, PC in bits 11–0; mode 1; PC 2 or 3": flags 1010, then 0101
+    -- "bank 1's R7 := NZCV in bits 31–28, zeros, PC in bits 11–0; mode 1; PC 2 or 3": flags 1010, 0101, then 1100 and 0110, which
+    -- tell every two flags apart
     ∷ row
     (shown (seen 0x123 1 0 1 0 11) (interrupted (seen 0x123 1 0 1 0 11) 2))
     (2 ∷ 15 ∷ 0xA000_0123 ∷ 0x8000_0005 ∷ 1 ∷ 0 ∷ 1 ∷ 0 ∷ 15 ∷ [])
     ∷ row
     (shown (seen 0xFFF 0 1 0 1 2) (interrupted (seen 0xFFF 0 1 0 1 2) 3))
     (3 ∷ 15 ∷ 0x5000_0FFF ∷ 0x8000_0005 ∷ 0 ∷ 1 ∷ 0 ∷ 1 ∷ 6 ∷ [])
+    ∷ row
+    (shown (seen 0x456 1 1 0 0 1) (interrupted (seen 0x456 1 1 0 0 1) 2))
+    (2 ∷ 15 ∷ 0xC000_0456 ∷ 0x8000_0005 ∷ 1 ∷ 1 ∷ 0 ∷ 0 ∷ 5 ∷ [])
+    ∷ row
+    (shown (seen 0x789 0 1 1 0 3) (interrupted (seen 0x789 0 1 1 0 3) 2))
+    (2 ∷ 15 ∷ 0x6000_0789 ∷ 0x8000_0005 ∷ 0 ∷ 1 ∷ 1 ∷ 0 ∷ 7 ∷ [])
     -- taken beside a program's own 3BC00H, and beyond the program; "one clock", no word finished
     ∷ row (reached handler (atNever 1) (1 ∷ [])) (2 ∷ 0xA000_0003 ∷ 5 ∷ 0 ∷ 1 ∷ 0 ∷ 0 ∷ [])
     ∷ row (reached caller (atNever 2) (2 ∷ [])) (3 ∷ 0xA000_0003 ∷ 6 ∷ 0 ∷ 1 ∷ 0 ∷ 0 ∷ [])

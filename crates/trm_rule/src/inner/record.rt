@@ -132,7 +132,7 @@ fn most_waits(w: u32) -> u64
 // Phase 4.
 fn wait_ok(c: Scalars, regs: &[u32; 16], w: u32, n: u64, count: u64) -> bool
     requires { ⌜ storeLengthOk n ≡ true ⌝ }
-    ensures { λ r. ⌜ r ≡ waitOk paperGeometry w n count (gathered c (now (regs .entry))) ⌝ }
+    ensures { λ r. ⌜ r ≡ waitOk w n count (gathered c (now (regs .entry))) ⌝ }
 {
     if count < 1 {
         return false;
@@ -366,7 +366,7 @@ fn marks_ok(
     l: usize,
 ) -> bool
     requires { ⌜ l < 16 ⌝ }
-    ensures { λ r. ⌜ r ≡ marksOk paperGeometry
+    ensures { λ r. ⌜ r ≡ marksOk
         (cache (now (full .entry)) (now (dirty .entry)) (now (block .entry)) (now (words .entry))) l ⌝ }
 {
     if full[l] >= 2 {
@@ -416,7 +416,7 @@ fn good_line(
     l: usize,
 ) -> bool
     requires { ⌜ l < 16 ⌝ }
-    ensures { λ r. ⌜ r ≡ (marksOk paperGeometry
+    ensures { λ r. ⌜ r ≡ (marksOk
         (cache (now (full .entry)) (now (dirty .entry)) (now (block .entry)) (now (words .entry))) l
         && lineOk paperGeometry on n l
         (lineAt paperGeometry (cache (now (full .entry)) (now (dirty .entry)) (now (block .entry)) (now (words .entry))) l)) ⌝ }

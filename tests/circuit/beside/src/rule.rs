@@ -3,8 +3,8 @@
 // It checks that IRQ1 is all that parts the two, with NOPIRQ, ACKMASK, PSRIRQ and ACKLINE set aside.
 use circuit::{list, Image, Setting, Switch};
 use compare::groups::{image, switches, GROUPS};
-use library::Machine;
 use std::fmt::Write;
+use trm::raw::{self, Machine};
 
 /// After a sampled line come an acknowledge clock and a NOP; a taken branch's second clock is its acknowledge.
 #[derive(Clone, Copy, PartialEq, Eq)]
@@ -49,7 +49,7 @@ impl<'a> Rule<'a> {
     fn new(image: &'a Image) -> Rule<'a> {
         let store = image.store();
         Rule {
-            machine: library::reset(&store).machine,
+            machine: raw::reset(&store).machine,
             program: &image.program,
             store,
             stage: Stage::Running,
@@ -70,7 +70,7 @@ impl<'a> Rule<'a> {
 
     /// One clock of document 01's machine; true if it ended a word.
     fn step(&mut self, line: u8, input: u32) -> Result<bool, String> {
-        let answer = library::clock(&self.machine, self.program, &mut self.store, line, input);
+        let answer = raw::clock_value(&self.machine, self.program, &mut self.store, line, input);
         if answer.number != 0 {
             return Err(format!("clock {}: refused with {}", self.clocks, answer.number));
         }

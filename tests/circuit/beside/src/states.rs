@@ -3,8 +3,8 @@
 // Between an instruction's clocks nothing but device accesses is compared: the circuit's branches act one clock earlier.
 use circuit::{Circuit, Image, Out, Pins, Setting, Switch, Switches};
 use compare::groups::{image, switches, GROUPS};
-use library::Machine;
 use std::fmt::Write;
+use trm::raw::{self, Machine};
 
 #[derive(Default)]
 struct Totals {
@@ -52,11 +52,11 @@ fn differing(circuit: &State, library: &State) -> String {
 fn run(image: &Image, switches: Switches, totals: &mut Totals) -> Result<(), String> {
     let mut store = image.store();
     let mut circuit = Circuit::new(switches, &image.program, &store);
-    let mut machine = library::reset(&store).machine;
+    let mut machine = raw::reset(&store).machine;
     for run in &image.runs {
         for _ in 0..run.count {
             let out = circuit.clock(Pins::new(run.line, run.input));
-            let answer = library::clock(&machine, &image.program, &mut store, run.line, run.input);
+            let answer = raw::clock_value(&machine, &image.program, &mut store, run.line, run.input);
             if answer.number != 0 {
                 return Err(format!("after {} clocks: refused with {}", machine.clocks, answer.number));
             }

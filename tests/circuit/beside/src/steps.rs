@@ -3,7 +3,7 @@
 // After clock 33 the circuit keeps its registers where document 01 has zero, so only results are compared there.
 use circuit::words::{register, DIV, MUL};
 use circuit::{Circuit, Pins, Setting, Switch, Switches};
-use library::Machine;
+use trm::raw::{self, Machine};
 
 /// Random pairs, beside the edges.
 const ROUNDS: u64 = 3000;
@@ -128,13 +128,13 @@ fn pair(group: &Group, switches: Switches, b: u32, a: u32) -> Result<u64, String
     let program = [register(group.operation, 0, 1)];
     let mut store = vec![0; 64];
     let mut circuit = Circuit::new(switches, &program, &store);
-    let mut machine = library::reset(&store).machine;
+    let mut machine = raw::reset(&store).machine;
     (circuit.registers[0], circuit.registers[1]) = (b, a);
     (machine.regs[0], machine.regs[1]) = (b, a);
     let mut steps = 0;
     for step in 1..=33u64 {
         circuit.clock(Pins::default());
-        let answer = library::clock(&machine, &program, &mut store, 0, 0);
+        let answer = raw::clock_value(&machine, &program, &mut store, 0, 0);
         if answer.number != 0 {
             return Err(format!("step {step}: refused with {}", answer.number));
         }

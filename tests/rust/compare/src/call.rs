@@ -64,9 +64,15 @@ struct Fenced<T: Copy + PartialEq> {
 }
 
 impl<T: Copy + PartialEq> Fenced<T> {
-    fn new(items: &[T], fence: T) -> Fenced<T> {
+    /// Made in `room`, whose items are lost and whose memory is used again.
+    fn new(items: &[T], fence: T, mut room: Vec<T>) -> Fenced<T> {
         let guard = [fence; GUARD];
-        Fenced { items: [&guard, items, &guard].concat(), fence }
+        room.clear();
+        room.reserve(items.len() + 2 * GUARD);
+        for part in [&guard, items, &guard] {
+            room.extend_from_slice(part);
+        }
+        Fenced { items: room, fence }
     }
 
     fn lend(&mut self) -> &mut [T] {
@@ -86,10 +92,11 @@ impl<T: Copy + PartialEq> Fenced<T> {
 }
 
 impl Call {
-    pub fn perform(&self, side: &dyn Side, lent: &Lent) -> Outcome {
-        let mut store = Fenced::new(&lent.store, FENCE);
-        let mut bytes = Fenced::new(self.bytes(), FENCE_BYTE);
-        let mut words = Fenced::new(self.words(), FENCE);
+    /// Carries the call out on a copy of the store, which is made in `room`.
+    pub fn perform(&self, side: &dyn Side, lent: &Lent, room: Vec<u32>) -> Outcome {
+        let mut store = Fenced::new(&lent.store, FENCE, room);
+        let mut bytes = Fenced::new(self.bytes(), FENCE_BYTE, Vec::new());
+        let mut words = Fenced::new(self.words(), FENCE, Vec::new());
         let (m, program) = (&lent.machine, &lent.program[..]);
         let mut machine = lent.machine;
         let mut answers = [("byte", 0), ("word", 0), ("finished", 0), ("used", 0), ("found", 0), ("clock", 0)];

@@ -5,6 +5,7 @@ use crate::call::{difference, untouched, Call, Lent, Outcome};
 use crate::library::Library;
 use crate::side::Simulator;
 use crate::tally::Tally;
+use std::mem::take;
 
 #[derive(Default)]
 pub struct Check {
@@ -19,6 +20,8 @@ pub struct Check {
     pub seed: u64,
     /// Whether runs are gone through clock by clock for the tally.
     pub observing: bool,
+    /// Where the library's stores of the last call were: by value, lent.
+    pub rooms: [Vec<u32>; 2],
 }
 
 impl Check {
@@ -44,8 +47,8 @@ impl Check {
 
     /// Carries the call out on both sides and gives the common outcome.
     pub fn call(&mut self, lent: &Lent, call: &Call) -> Outcome {
-        let ours = call.perform(&Simulator, lent);
-        let theirs = call.perform(&Library, lent);
+        let ours = call.perform(&Simulator, lent, Vec::new());
+        let theirs = call.perform(&Library::ByValue, lent, take(&mut self.rooms[0]));
         self.calls += 1;
         if let Some(what) = difference(call, &ours, &theirs) {
             self.report(lent, call, &what);
@@ -55,8 +58,25 @@ impl Check {
         }
         self.judge(lent, call, &ours);
         self.judge(lent, call, &theirs);
+        if matches!(call, Call::Clock { .. }) {
+            self.lend(lent, call, &theirs);
+        }
         self.count(lent, call, &ours);
+        self.rooms[0] = theirs.store;
         ours
+    }
+
+    /// The same clock with the record lent, on copies of record and store, must come to what it came to by value.
+    fn lend(&mut self, lent: &Lent, call: &Call, by_value: &Outcome) {
+        let lending = call.perform(&Library::Lending, lent, take(&mut self.rooms[1]));
+        if let Some(what) = difference(call, by_value, &lending) {
+            self.report(lent, call, &format!("by value against lent: {what}"));
+        }
+        if !lending.guarded {
+            self.report(lent, call, "lent: a word beside the lent ones was written");
+        }
+        self.tally.lent[usize::from(by_value.number != 0)] += 1;
+        self.rooms[1] = lending.store;
     }
 
     /// What the paper says of one side's outcome alone.
@@ -109,8 +129,8 @@ impl Check {
 
     /// The call must be answered with this number, written in the test, on both sides.
     pub fn expect(&mut self, lent: &Lent, call: &Call, number: u32, why: &str) -> Outcome {
-        let ours = call.perform(&Simulator, lent);
-        let theirs = call.perform(&Library, lent);
+        let ours = call.perform(&Simulator, lent, Vec::new());
+        let theirs = call.perform(&Library::ByValue, lent, Vec::new());
         for (side, outcome) in [("simulator", &ours), ("library", &theirs)] {
             if outcome.number != number {
                 let what = format!("{why}: {number} expected, {} from the {side}", outcome.number);

@@ -16,12 +16,13 @@ pub fn sweep(check: &mut Check, random: &mut Random) {
         let lines = programs::lines(random, 1);
         let call = Call::Clock { line: lines[0], input: random.word() };
         check.expect(&lent, &call, 0, &format!("a record made for {kind:?}, before its damage"));
+        let mut damaged = lent.clone();
         for field in fields::all() {
             if matches!(field, Field::Word(_)) && random.percent(97) {
                 continue;
             }
             for value in values(random, field, &lent.machine) {
-                let mut damaged = lent.clone();
+                damaged.machine = lent.machine;
                 field.set(&mut damaged.machine, value);
                 check.call(&damaged, &call);
             }

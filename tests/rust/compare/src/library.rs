@@ -1,18 +1,33 @@
 // The library as one of the sides that are compared.
-// Paper: the calls.
-// The C interface itself is the package `library`.
+// Paper: the calls; "Later a second entry lends the record itself for one clock, with the same outcome".
+// The C interface itself is `raw` of the package bindings/rust.
 use crate::side::Side;
-pub use library::{ClockAnswer, LookAnswer, Machine, ResetAnswer, RunAnswer, WatchAnswer};
+use trm::raw;
+pub use trm::raw::{ClockValueAnswer, LookAnswer, Machine, ResetAnswer, RunAnswer, WatchAnswer};
 
-pub struct Library;
+/// The library, a clock taking the record by value, or lent.
+pub enum Library {
+    ByValue,
+    Lending,
+}
+
+/// The lent clock on a copy of the record; its answer, and the record as it was left.
+fn clock_lent(m: &Machine, program: &[u32], store: &mut [u32], line: u8, input: u32) -> ClockValueAnswer {
+    let mut machine = *m;
+    let raw::ClockAnswer { number, byte, word, finished } = raw::clock(&mut machine, program, store, line, input);
+    ClockValueAnswer { machine, number, byte, word, finished }
+}
 
 impl Side for Library {
     fn reset(&self, store: &[u32]) -> ResetAnswer {
-        library::reset(store)
+        raw::reset(store)
     }
 
-    fn clock(&self, m: &Machine, program: &[u32], store: &mut [u32], line: u8, input: u32) -> ClockAnswer {
-        library::clock(m, program, store, line, input)
+    fn clock(&self, m: &Machine, program: &[u32], store: &mut [u32], line: u8, input: u32) -> ClockValueAnswer {
+        match self {
+            Library::ByValue => raw::clock_value(m, program, store, line, input),
+            Library::Lending => clock_lent(m, program, store, line, input),
+        }
     }
 
     fn run(
@@ -25,18 +40,18 @@ impl Side for Library {
         bytes: &mut [u8],
         words: &mut [u32],
     ) -> RunAnswer {
-        library::run(m, program, store, lines, inputs, bytes, words)
+        raw::run(m, program, store, lines, inputs, bytes, words)
     }
 
     fn look(&self, m: &Machine, program: &[u32], store: &[u32], address: u32) -> LookAnswer {
-        library::look(m, program, store, address)
+        raw::look(m, program, store, address)
     }
 
     fn copy(&self, m: &Machine, program: &[u32], store: &[u32], buffer: &mut [u32]) -> u32 {
-        library::copy(m, program, store, buffer)
+        raw::copy(m, program, store, buffer)
     }
 
     fn watch(&self, bytes: &[u8], device: u32) -> WatchAnswer {
-        library::watch(bytes, device)
+        raw::watch(bytes, device)
     }
 }

@@ -1,12 +1,12 @@
 // The two sides of the comparison behind one trait; here the simulator's side.
 // Paper: the calls of "Clock by clock" and "Where calls are turned down".
 // A refused clock or run answers the record as given and zeros; a refused reset a record of zeros.
-use crate::library::{ClockAnswer, LookAnswer, Machine, ResetAnswer, RunAnswer, WatchAnswer};
+use crate::library::{ClockValueAnswer, LookAnswer, Machine, ResetAnswer, RunAnswer, WatchAnswer};
 use simulator::{Cache, Flags, Line, Record, State};
 
 pub trait Side {
     fn reset(&self, store: &[u32]) -> ResetAnswer;
-    fn clock(&self, m: &Machine, program: &[u32], store: &mut [u32], line: u8, input: u32) -> ClockAnswer;
+    fn clock(&self, m: &Machine, program: &[u32], store: &mut [u32], line: u8, input: u32) -> ClockValueAnswer;
     #[allow(clippy::too_many_arguments)]
     fn run(
         &self,
@@ -87,13 +87,13 @@ impl Side for Simulator {
         }
     }
 
-    fn clock(&self, m: &Machine, program: &[u32], store: &mut [u32], line: u8, input: u32) -> ClockAnswer {
+    fn clock(&self, m: &Machine, program: &[u32], store: &mut [u32], line: u8, input: u32) -> ClockValueAnswer {
         let mut record = to_record(m);
         let answer = simulator::clock(&mut record, program, store, line, input);
         let number = answer.err().unwrap_or(0);
         let answer = answer.unwrap_or_default();
         let machine = from_record(&record);
-        ClockAnswer { machine, number, byte: answer.byte, word: answer.word, finished: answer.finished }
+        ClockValueAnswer { machine, number, byte: answer.byte, word: answer.word, finished: answer.finished }
     }
 
     fn run(

@@ -61,6 +61,8 @@ pub struct Tally {
     pub numbers: [u64; 11],
     pub rows: [u64; 24],
     pub accepted: [u64; 6],
+    /// Clocks that were also called with the record lent: accepted, refused.
+    pub lent: [u64; 2],
 }
 
 /// Row of the clock table and charge of the word at PC of a record that is ready.
@@ -220,6 +222,8 @@ impl Tally {
         let names = ["reset", "clock", "run", "look", "copy", "watch"];
         let calls = 0..6;
         counts.extend(calls.map(|kind| (format!("accepted: {}", names[kind]), self.accepted[kind])));
+        counts.push(("accepted: lent clock".into(), self.lent[0]));
+        counts.push(("refused: lent clock".into(), self.lent[1]));
         counts
     }
 }

@@ -1,5 +1,5 @@
 // A stand-in for the library: the C interface over a copy of the simulator, to try the comparison out.
-// Paper: the calls of "Clock by clock".
+// Paper: the calls of "Clock by clock"; the record's layout is that of include/trm.h.
 // A refused clock or run answers the record as given and zeros, a refused reset a record of zeros.
 use planted::{Cache, Flags, Line, Record, State};
 use std::slice::{from_raw_parts, from_raw_parts_mut};
@@ -7,8 +7,7 @@ use std::slice::{from_raw_parts, from_raw_parts_mut};
 #[repr(C)]
 #[derive(Clone, Copy)]
 pub struct Machine {
-    h: u32,
-    status: u32,
+    status: u64,
     pc: u64,
     n: u64,
     z: u64,
@@ -19,7 +18,8 @@ pub struct Machine {
     product: u64,
     remainder: u64,
     quotient: u64,
-    size: u64,
+    h: u32,
+    size: u32,
     clocks: u64,
     held: u64,
     refills: u64,
@@ -38,8 +38,16 @@ pub struct ResetAnswer {
 }
 
 #[repr(C)]
-pub struct ClockAnswer {
+pub struct ClockValueAnswer {
     machine: Machine,
+    number: u32,
+    byte: u8,
+    word: u32,
+    finished: u64,
+}
+
+#[repr(C)]
+pub struct ClockAnswer {
     number: u32,
     byte: u8,
     word: u32,
@@ -132,14 +140,30 @@ pub unsafe extern "C" fn trm_clock_value(
     n: usize,
     line: u8,
     input: u32,
-) -> ClockAnswer {
+) -> ClockValueAnswer {
     let mut record = to_record(&m);
     let (program, store) = (from_raw_parts(program, np), from_raw_parts_mut(store, n));
     let answer = planted::clock(&mut record, program, store, line, input);
     let number = answer.err().unwrap_or(0);
     let answer = answer.unwrap_or_default();
     let machine = from_record(&record);
-    ClockAnswer { machine, number, byte: answer.byte, word: answer.word, finished: answer.finished }
+    ClockValueAnswer { machine, number, byte: answer.byte, word: answer.word, finished: answer.finished }
+}
+
+#[no_mangle]
+pub unsafe extern "C" fn trm_clock(
+    m: *mut Machine,
+    program: *const u32,
+    np: usize,
+    store: *mut u32,
+    n: usize,
+    line: u8,
+    input: u32,
+) -> ClockAnswer {
+    let answer = trm_clock_value(*m, program, np, store, n, line, input);
+    let ClockValueAnswer { machine, number, byte, word, finished } = answer;
+    *m = machine;
+    ClockAnswer { number, byte, word, finished }
 }
 
 #[no_mangle]

@@ -10,8 +10,8 @@ use Rattle.trm_alu.proofs.Laws.Sums.{off-sum, overflow-is}
 use Rattle.trm_alu.proofs.inner.sums.overflow_of_add.Statement.{statement}
 use Rattle.trm_alu.proofs.inner.sums.overflow_of_add.Tie as tie
 
-exact-sum-requires : tie.Need-exact-sum-requires
-exact-sum-requires c κs = search needs
+biased-sum-requires : tie.Need-biased-sum-requires
+biased-sum-requires c κs = search needs
 
 add-result : tie.Need-add-result
 add-result c = search needs
@@ -23,9 +23,9 @@ returns : tie.Need-returns
 unfolding overflowOfAdd
 returns c =
     let entry = c .before in
-    ap (λ (x : ℕ). ((x + 2 ^ 31) / 2 ^ 32 + 1) % 2) (c .exact-sum .ensures)
+    ap (λ (x : ℕ). ((x + 2 ^ 31) / 2 ^ 32 + 1) % 2) (c .biased-sum .ensures)
     ∙ overflow-is (exactSum (entry .args .a) (entry .args .b)) _
     (off-sum (entry .args .a) (entry .args .b) (entry .fits .a .fits) (entry .fits .b .fits))
 
 pub overflow-of-add-spec : {M : Type 1} → statement M
-overflow-of-add-spec = tie.close (tie.spec exact-sum-requires add-result add-result-2 returns)
+overflow-of-add-spec = tie.close (tie.spec biased-sum-requires add-result add-result-2 returns)

@@ -10,8 +10,8 @@ use Rattle.trm_alu.proofs.Laws.Sums.{off-exact-difference, overflow-is}
 use Rattle.trm_alu.proofs.inner.sums.overflow_of_sub.Statement.{statement}
 use Rattle.trm_alu.proofs.inner.sums.overflow_of_sub.Tie as tie
 
-exact-difference-requires : tie.Need-exact-difference-requires
-exact-difference-requires c κs = search needs
+biased-difference-requires : tie.Need-biased-difference-requires
+biased-difference-requires c κs = search needs
 
 add-result : tie.Need-add-result
 add-result c = search needs
@@ -23,9 +23,9 @@ returns : tie.Need-returns
 unfolding overflowOfSub
 returns c =
     let entry = c .before in
-    ap (λ (x : ℕ). ((x + 2 ^ 31) / 2 ^ 32 + 1) % 2) (c .exact-difference .ensures)
+    ap (λ (x : ℕ). ((x + 2 ^ 31) / 2 ^ 32 + 1) % 2) (c .biased-difference .ensures)
     ∙ overflow-is (exactDifference (entry .args .a) (entry .args .b)) _
     (off-exact-difference (entry .args .a) (entry .args .b) (entry .fits .a .fits) (entry .fits .b .fits))
 
 pub overflow-of-sub-spec : {M : Type 1} → statement M
-overflow-of-sub-spec = tie.close (tie.spec exact-difference-requires add-result add-result-2 returns)
+overflow-of-sub-spec = tie.close (tie.spec biased-difference-requires add-result add-result-2 returns)

@@ -5,7 +5,6 @@ use native.Mathlib.Omega.{arith}
 use Prim.Native.Nat.{_+_, _-_, _*_}
 use borrow.Author.Tests.{lt-leb, le-leb}
 use Rattle.trm_cache.specs.Cache.{writeWord}
-use Rattle.trm_cache.proofs.Laws.Lines.{word-at}
 use borrow.Author.Needs.{needs}
 use Rattle.trm_cache.proofs.inner.bursts.write_word.Statement.{statement}
 use Rattle.trm_cache.proofs.inner.bursts.write_word.Tie as tie

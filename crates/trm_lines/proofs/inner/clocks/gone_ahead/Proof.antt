@@ -5,7 +5,7 @@ use mathlib.Core.List.{[]}
 use lib.ListN.{length, length-replicate}
 use Rattle.trm_ahead.specs.Reached.{point}
 use Rattle.trm_lines.proofs.Laws.Onward.{onward-none}
-use Rattle.trm_lines.proofs.Laws.Gone.{under-able, gone-below, onward-gone, lines-same}
+use Rattle.trm_lines.proofs.Laws.Gone.{least-bounds, under-able, gone-below, onward-gone, lines-same}
 use borrow.Author.Needs.{needs}
 use Rattle.trm_lines.proofs.inner.clocks.gone_ahead.Statement.{statement}
 use Rattle.trm_lines.proofs.inner.clocks.gone_ahead.Tie as tie
@@ -26,18 +26,21 @@ least-requires : tie.Need-least-requires
 least-requires c κs = search needs
 
 array-share-prefix-lines : tie.Need-array-share-prefix-lines
-array-share-prefix-lines c = search needs
+array-share-prefix-lines c =
+    let l = c .before .before .before .before .before .before .before .before .before .args .l in
+    least-bounds (l .left) 64 _ (c .before .before .least .ensures) .1
 
 slice-aggregate-flight-ahead : tie.Need-slice-aggregate-flight-ahead
 slice-aggregate-flight-ahead c =
-    let m = c .before .before .before .least .ensures in
+    let l = c .before .before .before .before .before .before .before .before .before .before .args .l in
+    let m = least-bounds (l .left) 64 _ (c .before .before .before .least .ensures) in
     sym (ap length (lines-same _ (c .before .before .before .before .before .before .before .before .before .before .args .line)
     (m .1)) ∙ length-replicate _ _)
 
 flight-ahead-requires : tie.Need-flight-ahead-requires
 flight-ahead-requires c κs =
     let pre = c .before .before .before .before .before .before .before .before .before .before .pre in
-    let m = c .before .before .before .least .ensures in (
+    let m = least-bounds _ _ _ (c .before .before .before .least .ensures) in (
       under-able _ _ (c .before .before .before .before .before .before .before .before .before .before .args .l) _ _ _ []
           (pre .0) _ (m .0) (m .1) _ (lines-same _ _ (m .1)) _ (c .before .before .before .before .word-at .ensures),
       pre .3,
@@ -47,7 +50,7 @@ sub-t25 : tie.Need-sub-t25
 sub-t25 c =
     let pre = c .before .before .before .before .before .before .before .before .before .before .before .before .before .before
     .before .before .pre in
-    let m = c .before .before .before .before .before .before .before .before .before .least .ensures in
+    let m = least-bounds _ _ _ (c .before .before .before .before .before .before .before .before .before .least .ensures) in
     let q = c .before .before .before .before .before .flight-ahead .ensures in
     let below = gone-below _ _ (c .before .before .before .before .before .before .before .before .before .before .before .before
     .before .before .before .before .args .l) _ _ _ [] (pre .0) _ (m .0) (m .1) _ (lines-same _ _ (m .1)) (pre .1) (pre .2) _
@@ -59,7 +62,7 @@ add-t27 : tie.Need-add-t27
 add-t27 c =
     let pre = c .before .before .before .before .before .before .before .before .before .before .before .before .before .before
     .before .before .before .pre in
-    let m = c .before .before .before .before .before .before .before .before .before .before .least .ensures in
+    let m = least-bounds _ _ _ (c .before .before .before .before .before .before .before .before .before .before .least .ensures) in
     let q = c .before .before .before .before .before .before .flight-ahead .ensures in
     let below = gone-below _ _ (c .before .before .before .before .before .before .before .before .before .before .before .before
     .before .before .before .before .before .args .l) _ _ _ [] (pre .0) _ (m .0) (m .1) _ (lines-same _ _ (m .1)) (pre .1)
@@ -75,7 +78,7 @@ returns-2 : tie.Need-returns-2
 returns-2 c =
     let pre = c .before .before .before .before .before .before .before .before .before .before .before .before .before .before
     .before .before .before .pre in
-    let m = c .before .before .before .before .before .before .before .before .before .before .least .ensures in
+    let m = least-bounds _ _ _ (c .before .before .before .before .before .before .before .before .before .before .least .ensures) in
     let q = c .before .before .before .before .before .before .flight-ahead .ensures in (
       λ b f. onward-gone _ _ (c .before .before .before .before .before .before .before .before .before .before .before .before
           .before .before .before .before .before .args .l) _ _ _ b (pre .0) _ (m .0) (m .1) _ (lines-same _ _ (m .1)) (pre .1)

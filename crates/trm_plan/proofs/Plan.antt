@@ -1,19 +1,16 @@
 -- What a clock does, as an action, and what each means for `isLast` and `advance` of the clocked machine.
--- Paper: none; these are the terms of the inner functions' contracts. No claim rests on them.
+-- Idea: the laws give a record that keeps row 5 its action; the functions' proofs go by the action. No contract cites these.
 -- Assumes nothing.
---   Good w n c rs ca    the record rule, for the word w        Plan a w n c rs ca   the clock's action is a        Action
+--   Plan a w n c rs ca   the clock's action is a        Does .. f   it is not the last clock, and does f
 use Prim.Native.Nat.{ℕ, _+_, _*_, _%_, _≤_, _<_}
 use mathlib.Core.Path.{_≡_}
 use mathlib.Core.Bool.{Bool, true, false}
 use mathlib.Core.List.{List}
-use Rattle.trm_word.specs.Address.{storeLengthOk}
 use Rattle.trm_reference.specs.Geometry.{paperGeometry}
-use Rattle.trm_reference.specs.Visible.{cacheOn}
 use Rattle.trm_cache.specs.Cache.{Cache, lineAt}
 use Rattle.trm_core.specs.declared.record.Scalars.{Scalars}
 use Rattle.trm_core.specs.Record.{gathered, productAt, remainderAt, quotientAt, stepping, inPhase}
 use Rattle.trm_core.specs.Clock.{Moved, moved, isLast, writing, filling, missing, advance}
-use Rattle.trm_core.specs.Rule.{widthsOk, countsOk, registersOk, phaseOk, linesOk}
 use Rattle.trm_steps.specs.Steps.{Steps}
 
 -- the word's last clock; one step; one clock of a write-back, of a refill; the looking clock of a miss; one wait past the cache;
@@ -26,15 +23,6 @@ pub data Action : Type 0 where
   Miss : (line : ℕ) → Action
   Wait : Action
   Due : Action
-
--- row 5, for the word w and a store of the legal length n
-pub record Good (w n : ℕ) (c : Scalars) (rs : List ℕ) (ca : Cache) : Type 0 where
-  pub legal : storeLengthOk n ≡ true
-  pub widths : widthsOk (gathered c rs) ≡ true
-  pub phase : phaseOk paperGeometry w n (c .running) (gathered c rs) ca ≡ true
-  pub registers : registersOk w (c .running) (gathered c rs) ≡ true
-  pub counts : countsOk (c .counts) ≡ true
-  pub lines : linesOk paperGeometry (cacheOn (gathered c rs)) n ca ≡ true
 
 -- the registers are those after 32 steps, or the word has no steps and they are zero
 pub record Ended (w : ℕ) (c : Scalars) (rs : List ℕ) : Type 0 where

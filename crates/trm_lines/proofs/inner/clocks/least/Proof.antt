@@ -1,0 +1,13 @@
+-- The proof of trm_lines::inner::clocks::least.
+use borrow.Author.Tests.{lt-ltb, le-ltb}
+use Rattle.trm_lines.proofs.inner.clocks.least.Statement.{statement}
+use Rattle.trm_lines.proofs.inner.clocks.least.Tie as tie
+
+returns : tie.Need-returns
+returns c = rw (lt-ltb _ _ (c .if1 .taken))
+
+returns-2 : tie.Need-returns-2
+returns-2 c = rw (le-ltb _ _ (c .if1 .left))
+
+pub least-spec : {M : Type 1} → statement M
+least-spec = tie.close (tie.spec returns returns-2)
