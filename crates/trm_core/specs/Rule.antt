@@ -48,7 +48,7 @@ arithmeticOk w count = leb 1 count && leb count 32 && isStepped w
 unfoldable pub waitOk : ℕ → ℕ → ℕ → Visible → Bool
 waitOk w n count v = leb 1 count && leb count (cond (isLoad w) 5 4) && pastCache w v n
 
--- each of full and dirty has one bit
+-- each of full and dirty has one bit (D-07)
 unfoldable pub marksOk : Cache → ℕ → Bool
 marksOk ca l = ltb (getD (ca .full) l 0) 2 && ltb (getD (ca .dirty) l 0) 2
 
