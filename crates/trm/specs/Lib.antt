@@ -2,6 +2,4 @@
 -- Paper: "Where calls are turned down".
 -- Assumes nothing.
 pub mod Numbered
-pub mod Fields
-pub mod Words
 pub mod Layout

@@ -6,3 +6,4 @@ pub mod Operations
 pub mod Numbers
 pub mod Recode
 pub mod RoundTrip
+pub mod Fields

@@ -6,5 +6,7 @@ pub mod Decode
 pub mod Encode
 pub mod Unused
 pub mod Refusals
+pub mod Fields
+pub mod Plain
 pub mod Worked
 pub mod Claims

@@ -3,5 +3,7 @@
 // `decoder::decode` and `encoder::encode` are the two calls.
 pub mod decoder;
 pub mod encoder;
+pub mod fields;
 pub mod inner;
 pub mod instruction;
+pub mod plain;

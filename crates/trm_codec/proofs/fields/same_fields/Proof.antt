@@ -1,7 +1,7 @@
 -- The proof of trm::fields::same_fields.
 use borrow.Author.Tests.{eq-eqb, ne-eqb}
-use Rattle.trm.proofs.fields.same_fields.Statement.{statement}
-use Rattle.trm.proofs.fields.same_fields.Tie as tie
+use Rattle.trm_codec.proofs.fields.same_fields.Statement.{statement}
+use Rattle.trm_codec.proofs.fields.same_fields.Tie as tie
 
 returns : tie.Need-returns
 returns c = rw (ne-eqb _ _ (c .if1 .taken))

@@ -7,14 +7,14 @@ use mathlib.Core.Bool.{Bool, _&&_}
 use mathlib.Core.List.{List, [], _∷_}
 use lib.Dec.{eqb}
 use lib.ListN.{getD}
 use Rattle.trm_codec.specs.declared.instruction.Operand.{Operand}
 use Rattle.trm_codec.specs.declared.instruction.Operand.the-variants.{Register, Literal}
 use Rattle.trm_codec.specs.declared.instruction.Instruction.{Instruction}
 use Rattle.trm_codec.specs.declared.instruction.Instruction.the-variants.{Arithmetic, MoveHigh, SetStatus, Jump, JumpAndLink}
 use Rattle.trm_codec.specs.declared.instruction.Instruction.the-variants.{ReturnFromInterrupt, Load, Store, Branch, Call}
 use Rattle.trm_codec.specs.Operations.{operationAt, numberOf}
 use Rattle.trm_codec.specs.Encode.{fits}
-use Rattle.trm.specs.declared.fields.Fields.{Fields}
+use Rattle.trm_codec.specs.declared.fields.Fields.{Fields}
 
 abbrev pub arithmeticFields : ℕ → ℕ → Operand → Fields
 arithmeticFields op d (Register s) = record { form = 0; operation = op; condition = 0; d = d; s = s; value = 0 }

@@ -6,16 +6,16 @@ use mathlib.Core.Bool.{Bool, true, false, cond, _&&_}
 use Prim.Native.Nat.{ℕ, _≤_}
 use lib.Dec.{ltb}
 use lib.ListN.{getD, List·getD-eq-default}
 use Rattle.trm_codec.specs.declared.instruction.Instruction.{Instruction}
 use Rattle.trm_codec.specs.declared.instruction.Instruction.the-variants.{Call}
 use Rattle.trm_codec.specs.declared.instruction.Decoded.{Decoded}
 use Rattle.trm_codec.specs.declared.instruction.Decoded.the-variants as D
 use Rattle.trm_codec.specs.Decode.{instructionOf, decodeOf}
 use Rattle.trm_codec.specs.Encode.{fits, placed}
 use Rattle.trm_codec.specs.Refusals.{wordRefusal, instructionRefusal}
-use Rattle.trm.specs.declared.fields.Fields.{Fields}
-use Rattle.trm.specs.Fields.{plainFields, fieldsOf, forms, instructionAt, sameFields, fieldsFit}
-use Rattle.trm.specs.Words.{fieldsGiven, fieldsRefusal, wordGiven, DecodeNumbered, EncodeNumbered}
+use Rattle.trm_codec.specs.declared.fields.Fields.{Fields}
+use Rattle.trm_codec.specs.Fields.{plainFields, fieldsOf, forms, instructionAt, sameFields, fieldsFit}
+use Rattle.trm_codec.specs.Plain.{fieldsGiven, fieldsRefusal, wordGiven, DecodesPlain, EncodesPlain}
 
 -- the instruction of a form that is known
 pub at-form : (f : Fields) {k : ℕ} → f .form ≡ k → getD (forms f) k (Call (f .value)) ≡ instructionAt f
@@ -39,11 +39,11 @@ decoded-is w i e = go (ltb 0x3FFFF w) e
     go false h = ap (held (instructionOf w)) h
 
 pub decoded : (w : ℕ) (i : Instruction) → wordRefusal w ≡ 0 → decodeOf w ≡ D.Instruction i
-    → DecodeNumbered w (record { fields = fieldsOf i; number = 0 })
+    → DecodesPlain w (record { fields = fieldsOf i; number = 0 })
 unfolding fieldsGiven
 decoded w i z e = record { number = sym z; fields = rw (z, decoded-is w i e) }
 
-pub not-decoded : (w : ℕ) → wordRefusal w ≡ 3 → DecodeNumbered w (record { fields = plainFields 0 0 0 0; number = 3 })
+pub not-decoded : (w : ℕ) → wordRefusal w ≡ 3 → DecodesPlain w (record { fields = plainFields 0 0 0 0; number = 3 })
 unfolding fieldsGiven
 not-decoded w z = record { number = sym z; fields = rw z }
 
@@ -64,5 +64,5 @@ module _ (f : Fields) (i : Instruction) (at : i ≡ instructionAt f) (ok : Bool)
   unfolding wordGiven fieldsFit
   word-at = ap (wordOf i) (sym e) ∙ ap (λ (j : Instruction). wordOf j (sameFields f (fieldsOf j))) at
 
-  pub encoded : (n w : ℕ) → n ≡ refusalOf i ok → w ≡ wordOf i ok → EncodeNumbered f (record { number = n; word = w })
+  pub encoded : (n w : ℕ) → n ≡ refusalOf i ok → w ≡ wordOf i ok → EncodesPlain f (record { number = n; word = w })
   encoded n w number word = record { number = number ∙ refusal-at; word = word ∙ word-at }

@@ -1,10 +1,10 @@
--- The proof of trm::words::trm_decode.
-use Rattle.trm.proofs.Laws.{decoded, not-decoded}
+-- The proof of trm_codec::plain::decode_fields.
+use Rattle.trm_codec.proofs.Laws.Fields.{decoded, not-decoded}
 use mathlib.Core.Path.{sym, ap, _∙_}
 use Rattle.trm_codec.specs.Refusals.{decodeNumber}
 use borrow.Author.Needs.{needs}
-use Rattle.trm.proofs.words.trm_decode.Statement.{statement}
-use Rattle.trm.proofs.words.trm_decode.Tie as tie
+use Rattle.trm_codec.proofs.plain.decode_fields.Statement.{statement}
+use Rattle.trm_codec.proofs.plain.decode_fields.Tie as tie
 
 decode-requires : tie.Need-decode-requires
 decode-requires c κs = search needs
@@ -29,7 +29,7 @@ returns-2 c =
     let d = c .before .before .decode .ensures in
     not-decoded _ (sym (d .number) ∙ ap decodeNumber (c .enum-told .given .1))
 
-pub trm-decode-spec : {M : Type 1} → statement M
-trm-decode-spec =
+pub decode-fields-spec : {M : Type 1} → statement M
+decode-fields-spec =
     tie.close
     (tie.spec decode-requires enum-known-r fields-of-requires enum-told returns returns-2)

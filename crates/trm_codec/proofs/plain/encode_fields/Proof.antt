@@ -1,18 +1,18 @@
--- The proof of trm::words::trm_encode.
-use Rattle.trm.proofs.Laws.{encoded}
+-- The proof of trm_codec::plain::encode_fields.
+use Rattle.trm_codec.proofs.Laws.Fields.{encoded}
 use borrow.Author.Tests.{not-true, not-false}
 use mathlib.Core.Bool.{true, false}
 use mathlib.Core.Path.{refl, sym, ap, _∙_}
 use Rattle.trm_codec.specs.Refusals.{encodeNumber, encodeValue}
 use borrow.Author.Needs.{needs}
-use Rattle.trm.proofs.words.trm_encode.Statement.{statement}
-use Rattle.trm.proofs.words.trm_encode.Tie as tie
-use Rattle.trm.proofs.words.trm_encode.Reads as reads
-use Rattle.trm.proofs.words.trm_encode.Lts as lts
-use Rattle.trm.proofs.fields.fields_of.Reads as fields-of-reads
-use Rattle.trm.proofs.fields.instruction_at.Reads as instruction-at-reads
-use Rattle.trm.proofs.fields.same_fields.Reads as same-fields-reads
+use Rattle.trm_codec.proofs.plain.encode_fields.Statement.{statement}
+use Rattle.trm_codec.proofs.plain.encode_fields.Tie as tie
+use Rattle.trm_codec.proofs.plain.encode_fields.Reads as reads
+use Rattle.trm_codec.proofs.plain.encode_fields.Lts as lts
+use Rattle.trm_codec.proofs.fields.fields_of.Reads as fields-of-reads
+use Rattle.trm_codec.proofs.fields.instruction_at.Reads as instruction-at-reads
+use Rattle.trm_codec.proofs.fields.same_fields.Reads as same-fields-reads
 use Rattle.trm_codec.proofs.encoder.encode.Reads as encode-reads
 
 instruction-at-requires : tie.Need-instruction-at-requires
 instruction-at-requires c κs = search needs
@@ -64,8 +64,8 @@ returns-3 c =
     .before .before .same-fields .result) (c .before .before .before .if1 .left))) _ _ (sym (ap encodeNumber g) ∙ e .number) (sym
     (ap encodeValue g) ∙ e .value)
 
-pub trm-encode-spec : {M : Type 1} → statement M
-trm-encode-spec =
+pub encode-fields-spec : {M : Type 1} → statement M
+encode-fields-spec =
     tie.close
     (tie.spec
     instruction-at-requires

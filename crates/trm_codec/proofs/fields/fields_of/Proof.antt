@@ -1,7 +1,7 @@
 -- The proof of trm::fields::fields_of.
 use borrow.Author.Needs.{needs}
-use Rattle.trm.proofs.fields.fields_of.Statement.{statement}
-use Rattle.trm.proofs.fields.fields_of.Tie as tie
+use Rattle.trm_codec.proofs.fields.fields_of.Statement.{statement}
+use Rattle.trm_codec.proofs.fields.fields_of.Tie as tie
 
 enum-known-instruction : tie.Need-enum-known-instruction
 enum-known-instruction c = search needs

@@ -1,7 +1,7 @@
 -- The proof of trm::fields::arithmetic_fields.
 use borrow.Author.Needs.{needs}
-use Rattle.trm.proofs.fields.arithmetic_fields.Statement.{statement}
-use Rattle.trm.proofs.fields.arithmetic_fields.Tie as tie
+use Rattle.trm_codec.proofs.fields.arithmetic_fields.Statement.{statement}
+use Rattle.trm_codec.proofs.fields.arithmetic_fields.Tie as tie
 
 enum-known-operand : tie.Need-enum-known-operand
 enum-known-operand c = search needs

@@ -2,10 +2,10 @@
 // Paper: "What a programmer sees", the format of each operation; row 10, "a field outside its width".
 // A field that a form does not have is 0: its width is none.
 ghost use mathlib.Core.Path.{_≡_};
-ghost use Rattle.trm.specs.Fields.{fieldsOf, arithmeticFields, instructionAt, sameFields};
-use trm_codec::inner;
-use trm_codec::instruction::Instruction;
-use trm_codec::instruction::Operand;
+ghost use Rattle.trm_codec.specs.Fields.{fieldsOf, arithmeticFields, instructionAt, sameFields};
+use crate::inner;
+use crate::instruction::Instruction;
+use crate::instruction::Operand;
 
 // Forms: 0 an operation 0-10 on a register, 1 on a literal, 2 MOV from H, 3 a new status, 4 a jump, 5 a jump that links, 6 RTI, 7 LD,
 // 8 ST, 9 a branch, 10 a call. `value` is the literal, the status or the offset as it stands in the word.

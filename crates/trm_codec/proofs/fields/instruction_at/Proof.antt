@@ -1,10 +1,10 @@
 -- The proof of trm::fields::instruction_at.
-use Rattle.trm.proofs.Laws.{at-form, past-forms}
+use Rattle.trm_codec.proofs.Laws.Fields.{at-form, past-forms}
 use Rattle.trm_laws.proofs.Match.{past}
 use Prim.Native.Nat.{_≤_, zero-le}
 use borrow.Author.Needs.{needs}
-use Rattle.trm.proofs.fields.instruction_at.Statement.{statement}
-use Rattle.trm.proofs.fields.instruction_at.Tie as tie
+use Rattle.trm_codec.proofs.fields.instruction_at.Statement.{statement}
+use Rattle.trm_codec.proofs.fields.instruction_at.Tie as tie
 
 operation-at-requires : tie.Need-operation-at-requires
 operation-at-requires c κs = search needs
