@@ -7,9 +7,9 @@ use crate::answer::LookAnswer;
 use crate::answer::ResetAnswer;
 use crate::answer::RunAnswer;
 use crate::answer::WatchAnswer;
-use crate::number;
 use trm_core::watch::Sighting;
 use trm_engine::machine::Machine;
+use trm_refusals::inner::number;
 
 // A record to begin with, for this store.
 #[no_mangle]

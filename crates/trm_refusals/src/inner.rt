@@ -2,5 +2,6 @@
 // `c` are the record's scalars, `regs` its registers, `full`, `dirty`, `block` and `words` its cache.
 // What each gives is a definition of trm_core; a function here may have a `requires`.
 pub mod calls;
+pub mod number;
 pub mod record;
 pub mod rows;

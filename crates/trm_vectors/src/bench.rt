@@ -12,6 +12,7 @@ use trm_calls::calls;
 use trm_core::watch::Sighting;
 use trm_engine::machine::Machine;
 use trm_inspect::calls as inspect;
+use trm_refusals::inner::number::number_of;
 use trm_refusals::refusal::Refusal;
 
 // The record, and how many words of the program and of the store are lent.
@@ -34,16 +35,7 @@ pub fn start() -> Bench {
 }
 
 fn number(refused: Refusal) -> u64 {
-    match refused {
-        Refusal::Accepted => 0,
-        Refusal::Program => 3,
-        Refusal::Store => 4,
-        Refusal::Record => 5,
-        Refusal::Lines => 6,
-        Refusal::Buffers => 7,
-        Refusal::Clocks => 8,
-        Refusal::Place => 9,
-    }
+    number_of(refused) as u64
 }
 
 // All of the record and of the store.

@@ -1,9 +1,9 @@
 // The number of a refusal, as the table numbers its rows; 0 is none.
 // Paper: "Where calls are turned down".
-// It is `numberOf` of trm_refusals.
+// What a call returns as a number, for callers who take no enum.
 ghost use mathlib.Core.Path.{_≡_};
 ghost use Rattle.trm_refusals.specs.Numbers.{numberOf};
-use trm_refusals::refusal::Refusal;
+use crate::refusal::Refusal;
 
 pub fn number_of(refused: Refusal) -> u32
     ensures { λ r. ⌜ r ≡ numberOf refused ⌝ }
