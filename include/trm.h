@@ -174,6 +174,11 @@ typedef struct trm_image_answer {
     uint64_t at; /* the byte where the record at fault begins; 0 for an image too long or empty, for 4, and for none */
 } trm_image_answer;
 
+typedef struct trm_part_answer {
+    uint64_t start;
+    uint64_t length;
+} trm_part_answer;
+
 /* The bytes of a record, and its version: a program that compares them with sizeof(trm_machine) and TRM_RECORD_VERSION knows that its
  * header is the library's. Not refused. */
 size_t trm_record_size(void);
@@ -220,6 +225,10 @@ trm_encode_answer trm_encode(trm_instruction instruction);
 /* Whether an image can be run with a store of so many words: its first fault, record after record. Refused: 1, 2, 3, 6; and 4, for a
  * length that no store has, where no record is at fault. */
 trm_image_answer trm_image_check(const uint8_t *image, size_t image_bytes, size_t store_words);
+
+/* The payload of the record that begins at byte `at`, as a part of the image: where it begins and how many bytes it has; what lies past
+ * the image's end is cut off. For any bytes and any place; not refused. */
+trm_part_answer trm_image_payload(const uint8_t *image, size_t image_bytes, size_t at);
 
 #ifdef __cplusplus
 }

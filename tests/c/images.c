@@ -104,8 +104,23 @@ static void test_limits(void)
     expect_image(zeros, 65536, 2048, TRM_REFUSED_KIND, 0, "65,536 bytes of 0", 0);
 }
 
+/* The payload of the record at a place: the paper's image has 12 bytes from 6 on, and 9 from 24 on; past the end it is cut off. */
+static void test_payloads(void)
+{
+    static const struct { size_t at; uint64_t start, length; } rows[] = {
+        {0, 6, 12}, {18, 24, 9}, {27, 33, 0}, {28, 33, 0}, {33, 33, 0}, {34, 33, 0}, {SIZE_MAX, 33, 0}, {SIZE_MAX - 5, 33, 0}, {4, 10, 23},
+    };
+    for (size_t i = 0; i < sizeof rows / sizeof rows[0]; i++) {
+        trm_part_answer a = trm_image_payload(PAPER, sizeof PAPER, rows[i].at);
+        hold(a.start == rows[i].start && a.length == rows[i].length, "the payload of a record, row", i);
+    }
+    trm_part_answer none = trm_image_payload(NULL, 0, 0);
+    hold(none.start == 0 && none.length == 0, "the payload of an empty image", 0);
+}
+
 void test_images(void)
 {
+    test_payloads();
     test_cut();
     test_spoiled();
     test_records();
