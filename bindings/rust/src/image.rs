@@ -19,6 +19,21 @@ pub fn check(image: &[u8], store_words: usize) -> Result<(), ImageFault> {
     accepted(answer.number).map_err(|refusal| ImageFault { refusal, at: answer.at })
 }
 
+/// The payload of the record that begins at byte `at`, as a part of the image itself. What lies past the image's end is cut off.
+///
+/// ```
+/// use trm::image::payload;
+///
+/// let image = [4, 0, 0, 0, 1, 0, 0x05, 0, 0, 0]; // kind 1 with one word, 00005H
+/// assert_eq!(payload(&image, 0), [0x05, 0, 0, 0]);
+/// assert_eq!(payload(&image[..8], 0), [0x05, 0]);
+/// assert_eq!(payload(&image, 10), []);
+/// ```
+pub fn payload(image: &[u8], at: usize) -> &[u8] {
+    let part = raw::image_payload(image, at);
+    &image[part.start as usize..][..part.length as usize]
+}
+
 /// One run of an image: so many clocks, each with the same lines and input word.
 #[derive(Clone, Copy, PartialEq, Eq, Hash, Debug)]
 pub struct Run {
@@ -104,12 +119,13 @@ impl Image {
 }
 
 /// Kind and payload of each record of an accepted image: a length of four bytes, a kind of two, the payload.
-fn records(mut rest: &[u8]) -> impl Iterator<Item = (u32, &[u8])> {
+fn records(image: &[u8]) -> impl Iterator<Item = (u32, &[u8])> {
+    let mut at = 0;
     std::iter::from_fn(move || {
-        let (head, after) = rest.split_at_checked(6)?;
-        let (payload, next) = after.split_at(number(&head[..4]) as usize);
-        rest = next;
-        Some((number(&head[4..]), payload))
+        let kind = number(image.get(at + 4..at + 6)?);
+        let payload = payload(image, at);
+        at += 6 + payload.len();
+        Some((kind, payload))
     })
 }
 

@@ -217,6 +217,16 @@ pub struct ImageAnswer {
     pub at: u64,
 }
 
+/// `trm_part_answer`.
+#[repr(C)]
+#[derive(Clone, Copy, PartialEq, Eq, Debug)]
+pub struct PartAnswer {
+    /// The byte of the image where the part begins.
+    pub start: u64,
+    /// Its bytes.
+    pub length: u64,
+}
+
 // The functions of trm.h; its head says what a caller must guarantee.
 extern "C" {
     /// See [`record_size`].
@@ -288,6 +298,8 @@ extern "C" {
     pub fn trm_encode(instruction: Instruction) -> EncodeAnswer;
     /// See [`image_check`].
     pub fn trm_image_check(image: *const u8, image_bytes: usize, store_words: usize) -> ImageAnswer;
+    /// See [`image_payload`].
+    pub fn trm_image_payload(image: *const u8, image_bytes: usize, at: usize) -> PartAnswer;
 }
 
 // SAFETY, of every call below: a pointer and its length are those of one slice or reference that lives until the call returns, and
@@ -378,4 +390,9 @@ pub fn encode(instruction: Instruction) -> EncodeAnswer {
 /// Whether an image can be run with a store of so many words. Refused: 1, 2, 3, 4, 6.
 pub fn image_check(image: &[u8], store_words: usize) -> ImageAnswer {
     unsafe { trm_image_check(image.as_ptr(), image.len(), store_words) }
+}
+
+/// The payload of the record that begins at a byte, as a part of the image. Not refused.
+pub fn image_payload(image: &[u8], at: usize) -> PartAnswer {
+    unsafe { trm_image_payload(image.as_ptr(), image.len(), at) }
 }

@@ -1,8 +1,8 @@
 // Images: the paper's example taken apart and run, one with data, and faults with the offset of their record.
 // Paper: "Images and the listing program".
 // A record is a length of four bytes, a kind of two, and the payload, all little-endian.
-use trm::image::{check, Image, Run};
-use trm::{ImageFault, Lines, Refusal};
+use trm::image::{check, payload, Image, Run};
+use trm::{raw, ImageFault, Lines, Refusal};
 
 /// `0C000000 0100 05000000 03000200 FFBB0300`: MOV R0, 5; MUL R0, 3; B .
 const PROGRAM: [u8; 18] = [0x0C, 0, 0, 0, 1, 0, 5, 0, 0, 0, 3, 0, 2, 0, 0xFF, 0xBB, 3, 0];
@@ -47,6 +47,21 @@ fn data_and_runs() {
     let machine = image.machine();
     assert_eq!(machine.store().len(), 64);
     assert_eq!(machine.memory()[..3], [0x0403_0201, 0xFFFF_FFFF, 0]);
+}
+
+/// Payloads of the example, whole and cut, and of places where no record begins.
+#[test]
+fn payloads_are_parts_of_the_image() {
+    let bytes = [&PROGRAM[..], &FORTY].concat();
+    let part = |bytes: &[u8], at| {
+        let raw::PartAnswer { start, length } = raw::image_payload(bytes, at);
+        assert_eq!(payload(bytes, at), &bytes[start as usize..(start + length) as usize]);
+        (start, length)
+    };
+    assert_eq!((part(&bytes, 0), part(&bytes, 18)), ((6, 12), (24, 9)));
+    assert_eq!((part(&bytes[..30], 18), part(&bytes[..24], 18)), ((24, 6), (24, 0)));
+    assert_eq!((part(&bytes[..23], 18), part(&bytes, 33), part(&bytes, usize::MAX)), ((23, 0), (33, 0), (33, 0)));
+    assert_eq!(part(&bytes, 1), (7, 26)); // bytes 1 to 4 read as the length 1000000H: cut at the end
 }
 
 /// Data may fill the store, and a program alone is an image.

@@ -4,8 +4,8 @@
 --   Point, point   where a run stands        Reached p ls is x₀ q bs ws   it began at x₀ and stands at q, the buffers being bs and ws
 --   At, Turned     what a turn asks and gives        Under, Stands, Quietly   the same of a turn that answers nothing
 --   Begins   the next clock begins a word        Room   what one clock with its answer asks
---   withSerial   the scalars after some steps
-use Prim.Native.Nat.{ℕ, _+_, _≤_, _<_}
+--   serialAt, withSerial   what is in flight, and the scalars, after some steps
+use Prim.Native.Nat.{ℕ, _+_, _-_, _≤_, _<_}
 use mathlib.Core.Path.{_≡_}
 use mathlib.Core.Bool.{true, false}
 use mathlib.Core.List.{List, _++_}
@@ -22,6 +22,7 @@ use Rattle.trm_core.specs.Claims.{Shaped}
 use Rattle.trm_core.specs.Rule.{recordOk}
 use Rattle.trm_core.specs.Refusals.{allAtMost, programOk, storeOk}
 use Rattle.trm_core.specs.Run.{bytesOf, wordsOf}
+use Rattle.trm_core.specs.declared.record.Running.{Running}
 use Rattle.trm_core.specs.declared.record.Scalars.{Scalars}
 use Rattle.trm_plan.specs.declared.inner.outcome.Clocked.{Clocked}
 use Rattle.trm_ahead.specs.declared.inner.going.Going.{Going}
@@ -113,6 +114,10 @@ abbrev pub Quietly : List ℕ → ℕ → Point → Point → Type 0
 Quietly ls w q q′ =
     (p is bs ws : List ℕ) (x₀ : Lent) → w ≡ wordAt p (q .lent .machine .scalars .pc)
     → Reached p ls is x₀ q bs ws → Reached p ls is x₀ q′ bs ws
+
+-- what is in flight after k clocks of steps, and the clocks held among them: those that were no steps
+abbrev pub serialAt : Scalars → Running → ℕ → Serial
+serialAt c r k = record { running = r; held = k - (r .count - c .running .count) }
 
 -- the scalars after k clocks of steps, some of them held
 abbrev pub withSerial : Scalars → Serial → ℕ → Scalars

@@ -35,7 +35,7 @@ use Rattle.trm_plan.proofs.Laws.Kinds.{block-at}
 use Rattle.trm_plan.proofs.Laws.Flight.{write-at, fill-at, wait-more, step-more, serial-count}
 use Rattle.trm_ahead.specs.declared.inner.going.Going.{Going}
 use Rattle.trm_ahead.specs.declared.inner.serial.Serial.{Serial}
-use Rattle.trm_ahead.specs.Reached.{point, Reached, Under, Quietly, withSerial}
+use Rattle.trm_ahead.specs.Reached.{point, Reached, Under, Quietly, serialAt, withSerial}
 use Rattle.trm_ahead.proofs.Laws.Reached.{step-quiet}
 use Rattle.trm_ahead.proofs.Laws.Here.{held-here, moved-here, good-here}
 
@@ -258,12 +258,20 @@ serial-begins ls w g rs ca s e =
     (subst (λ i. On ls w 1 g (record { scalars = g .scalars; at = i; finished = g .finished }) rs ca ca s s) (sym (plain (g .at)))
     (on-none ls w 1 g rs ca s e))
 
--- the held clocks are at most the clocks
-held-few : (sr sr′ : Serial) (k : ℕ) (t : Bool) (next : Running)
-    → sr′ ≡ cond t (record { running = sr .running; held = sr .held + 1 }) (record { running = next; held = sr .held })
-    → sr .held ≤ k → sr′ .held ≤ k + 1
-held-few sr sr′ k true next e h = rw e (omega (arith, h))
-held-few sr sr′ k false next e h = rw e (omega (arith, h))
+-- one clock more: what is in flight and the held clocks move by whether it is held
+pub serial-next : (c : Scalars) (r r′ next : Running) (k : ℕ) (t : Bool) → c .running .count ≤ r .count → r .count ≤ c .running .count + k
+    → next .count ≡ r .count + 1 → r′ ≡ cond t r next
+    → serialAt c r′ (k + 1)
+    ≡ cond t (record { running = r; held = serialAt c r k .held + 1 }) (record { running = next; held = serialAt c r k .held })
+serial-next c r r′ next k true lo hi n e = rw e (ap (λ h. record { running = r; held = h }) (omega (arith, lo, hi)))
+serial-next c r r′ next k false lo hi n e = rw e (ap (λ h. record { running = next; held = h }) (omega (arith, lo, hi, n)))
+
+-- and the steps are at most the clocks
+pub serial-bounds : (c : Scalars) (r r′ next : Running) (k : ℕ) (t : Bool) → c .running .count ≤ r .count → r .count ≤ c .running .count + k
+    → next .count ≡ r .count + 1 → r′ ≡ cond t r next
+    → (c .running .count ≤ r′ .count) × (r′ .count ≤ c .running .count + (k + 1))
+serial-bounds c r r′ next k true lo hi n e = rw e (lo, omega (arith, hi))
+serial-bounds c r r′ next k false lo hi n e = rw e (omega (arith, lo, n), omega (arith, hi, n))
 
 module _ (ls : List ℕ) (w : ℕ) (g : Going) (sr : Serial) (k : ℕ) (rs : List ℕ) (ca : Cache) (s : List ℕ) (u : Under ls w (point g rs ca s))
     (inv : On ls w 1 g (served g sr k) rs ca ca s s) where
@@ -283,13 +291,6 @@ module _ (ls : List ℕ) (w : ℕ) (g : Going) (sr : Serial) (k : ℕ) (rs : Lis
       (step-on ls w g (served g sr k) rs ca ca s s u inv more (more-steps z) (withSerial (g .scalars) sr′ (k + 1))
       (serial-more (g .scalars) sr sr′ k (stalled (getD ls (g .at + k) 0))
       (stepping w (gathered (g .scalars) rs) (sr .running .count + 1)) e))
-
-  pub serial-held : (sr′ : Serial)
-      → sr′ ≡ cond (stalled (getD ls (g .at + k) 0)) (record { running = sr .running; held = sr .held + 1 })
-      (record { running = stepping w (gathered (g .scalars) rs) (sr .running .count + 1); held = sr .held })
-      → sr .held ≤ k → sr′ .held ≤ k + 1
-  serial-held sr′ e = held-few sr sr′ k (stalled (getD ls (g .at + k) 0))
-      (stepping w (gathered (g .scalars) rs) (sr .running .count + 1)) e
 
   pub serves : sr .running .count ≢ 32 → (a b : ℕ) → a ≡ operandA w (gathered (g .scalars) rs) → b ≡ operandB w (gathered (g .scalars) rs)
       → Serves w (sr .running) a b

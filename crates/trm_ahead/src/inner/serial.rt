@@ -10,7 +10,7 @@ ghost use Rattle.trm_reference.specs.Interrupt.{stalled};
 ghost use Rattle.trm_cache.specs.Cache.{cache};
 ghost use Rattle.trm_core.specs.Record.{stepping};
 ghost use Rattle.trm_steps.specs.Steps.{Serves};
-ghost use Rattle.trm_ahead.specs.Reached.{point, Under, Quietly, withSerial};
+ghost use Rattle.trm_ahead.specs.Reached.{point, Under, Quietly, serialAt, withSerial};
 use crate::inner::going::Going;
 use trm_core::record::Running;
 use trm_core::record::Scalars;
@@ -25,23 +25,26 @@ pub struct Serial {
 }
 
 // One clock: held, or one step.
-fn serial_clock(s: Serial, w: u32, a: u32, b: u32, line: u8) -> Serial
-    requires { ⌜ Serves w (s .running) a b × (s .held ≤ 65536) ⌝ }
+fn serial_clock(before: Running, w: u32, a: u32, b: u32, line: u8) -> Running
+    requires { ⌜ Serves w before a b ⌝ }
     ensures { λ r. ⌜ ((v : Visible) → a ≡ operandA w v → b ≡ operandB w v
-        → r ≡ cond (stalled line) (record { running = s .running; held = s .held + 1 })
-        (record { running = stepping w v (s .running .count + 1); held = s .held })) ⌝ }
+        → r ≡ cond (stalled line) before (stepping w v (before .count + 1))) ⌝ }
 {
-    let before = s.running;
     if interrupt::is_stalled(line) {
-        return Serial {
-            running: before,
-            held: s.held + 1,
-        };
+        return before;
     }
-    let after = steps::later_step(before, w, a, b);
+    steps::later_step(before, w, a, b)
+}
+
+// After so many clocks: those that were no steps were held. To count them in the loop would take a register of the processor.
+fn serial_after(c: Scalars, after: Running, clocks: u64) -> Serial
+    requires { ⌜ (c .running .count ≤ after .count) × (after .count ≤ c .running .count + clocks) ⌝ }
+    ensures { λ r. ⌜ r ≡ serialAt c after clocks ⌝ }
+{
+    let stepped = after.count - c.running.count;
     Serial {
         running: after,
-        held: s.held,
+        held: clocks - stepped,
     }
 }
 
@@ -61,10 +64,17 @@ fn with_serial(c: Scalars, s: Serial, clocks: u64) -> Scalars
 }
 
 // Where the run stands after k clocks of this.
-fn after_serial(g: Going, s: Serial, k: usize) -> Going
-    requires { ⌜ (g .at + k ≤ 65536) × (g .scalars .counts .clocks + k < 2 ^ 32) × (g .scalars .counts .held + s .held < 2 ^ 32) ⌝ }
-    ensures { λ r. ⌜ r ≡ record { scalars = withSerial (g .scalars) s k; at = g .at + k; finished = g .finished } ⌝ }
+fn after_serial(g: Going, after: Running, k: usize) -> Going
+    requires { ⌜ (g .at + k ≤ 65536) × (g .scalars .counts .clocks + k < 2 ^ 32)
+        × (g .scalars .counts .held + serialAt (g .scalars) after k .held < 2 ^ 32)
+        × (g .scalars .running .count ≤ after .count) × (after .count ≤ g .scalars .running .count + k) ⌝ }
+    ensures { λ r. ⌜ r ≡ record {
+      scalars = withSerial (g .scalars) (serialAt (g .scalars) after k) k;
+      at = g .at + k;
+      finished = g .finished;
+    } ⌝ }
 {
+    let s = serial_after(g.scalars, after, k as u64);
     let c = with_serial(g.scalars, s, k as u64);
     Going {
         scalars: c,
@@ -96,18 +106,14 @@ pub fn steps_ahead(
 {
     let a = reading::operand_a(g.scalars, regs, w);
     let b = reading::operand_b(g.scalars, regs, w);
-    let running = g.scalars.running;
-    let mut s = Serial {
-        running: running,
-        held: 0,
-    };
+    let mut running = g.scalars.running;
     let mut k: usize = 0;
     while g.at + k < lines.len() {
-        if s.running.count == 32 {
-            return after_serial(g, s, k);
+        if running.count == 32 {
+            return after_serial(g, running, k);
         }
-        s = serial_clock(s, w, a, b, lines[g.at + k]);
+        running = serial_clock(running, w, a, b, lines[g.at + k]);
         k += 1;
     }
-    after_serial(g, s, k)
+    after_serial(g, running, k)
 }
