@@ -3,7 +3,7 @@
 -- Assumes nothing.
 --   On   a run that stood at g stands at h, in phase k        on-none, held-on, moved-on   no clock, a held one, one that goes on
 --   fill-on, write-on, wait-on, step-on   one clock of a loop
-use Prim.Native.Nat.{ℕ, _+_, _/_, _%_, _≤_, _<_, _^_}
+use Prim.Native.Nat.{ℕ, _+_, _-_, _/_, _%_, _≤_, _<_, _^_}
 use mathlib.Core.Path.{_≡_, refl, sym, ap, _∙_, subst}
 use mathlib.Core.Logic.{_≢_}
 use mathlib.Core.Bool.{Bool, true, false, cond, not, _&&_}
@@ -251,10 +251,15 @@ serial-more c sr sr′ k t next e = rw e (go t)
 abbrev pub served : Going → Serial → ℕ → Going
 served g sr k = record { scalars = withSerial (g .scalars) sr k; at = g .at + k; finished = g .finished }
 
+serial-zero : (c : Scalars) → withSerial c (serialAt c (c .running) 0) 0 ≡ c
+serial-zero c =
+    let none : 0 - (c .running .count - c .running .count) ≡ 0 = omega arith in
+    rw none (serial-none c)
+
 pub serial-begins : (ls : List ℕ) (w : ℕ) (g : Going) (rs : List ℕ) (ca : Cache) (s : List ℕ) → g .scalars .running .phase ≡ 1
-    → On ls w 1 g (served g (record { running = g .scalars .running; held = 0 }) 0) rs ca ca s s
+    → On ls w 1 g (served g (serialAt (g .scalars) (g .scalars .running) 0) 0) rs ca ca s s
 serial-begins ls w g rs ca s e =
-    subst (λ c. On ls w 1 g (record { scalars = c; at = g .at + 0; finished = g .finished }) rs ca ca s s) (sym (serial-none (g .scalars)))
+    subst (λ c. On ls w 1 g (record { scalars = c; at = g .at + 0; finished = g .finished }) rs ca ca s s) (sym (serial-zero (g .scalars)))
     (subst (λ i. On ls w 1 g (record { scalars = g .scalars; at = i; finished = g .finished }) rs ca ca s s) (sym (plain (g .at)))
     (on-none ls w 1 g rs ca s e))
 
@@ -309,6 +314,26 @@ module _ (ls : List ℕ) (w : ℕ) (g : Going) (sr : Serial) (k : ℕ) (rs : Lis
     c .clocks,
     omega (arith, c .held, c .clocks),
   )
+
+-- what the loop over steps keeps: where it stands, and that the steps are at most the clocks
+abbrev pub Stepped : List ℕ → ℕ → Going → List ℕ → Cache → List ℕ → Running → ℕ → Type 0
+Stepped ls w g rs ca s r k =
+    On ls w 1 g (served g (serialAt (g .scalars) r k) k) rs ca ca s s × (g .scalars .running .count ≤ r .count)
+    × (r .count ≤ g .scalars .running .count + k)
+
+pub stepped-on : (ls : List ℕ) (w : ℕ) (g : Going) (rs : List ℕ) (ca : Cache) (s : List ℕ) (r r′ : Running) (k : ℕ)
+    → Under ls w (point g rs ca s) → Stepped ls w g rs ca s r k → g .at + k < length ls → r .count ≢ 32
+    → r′ ≡ cond (stalled (getD ls (g .at + k) 0)) r (stepping w (gathered (g .scalars) rs) (r .count + 1))
+    → Stepped ls w g rs ca s r′ (k + 1)
+stepped-on ls w g rs ca s r r′ k u n more z e =
+    let next = stepping w (gathered (g .scalars) rs) (r .count + 1) in
+    let t = stalled (getD ls (g .at + k) 0) in
+    let b = serial-bounds (g .scalars) r r′ next k t (n .1) (n .2) refl e in (
+      serial-on ls w g (serialAt (g .scalars) r k) k rs ca s u (n .0) more z (serialAt (g .scalars) r′ (k + 1))
+          (serial-next (g .scalars) r r′ next k t (n .1) (n .2) refl e),
+      b .0,
+      b .1,
+    )
 
 -- a place that is not held is past one that is
 pub past-held : (ls : List ℕ) (i j : ℕ) → i ≤ j → stalled (getD ls i 0) ≡ true → stalled (getD ls j 0) ≡ false → i < j

@@ -28,7 +28,9 @@ loop-holds : tie.Need-loop-holds Inv-loop μ-loop
 loop-holds c = on-none _ _ _ _ _ _ _ (c .before .before .before .before .pre .1)
 
 returns : tie.Need-returns Inv-loop μ-loop
-returns c = let n = c .before .before .before .loop .inv in (n .quietly, ap (λ (v : Visible). v .pc) (n .seen), n .phase, n .onto, refl)
+returns c =
+    let n = c .before .before .before .loop .inv in
+    (n .quietly, ap (λ (v : Visible). v .pc) (n .seen), n .phase, n .onto, refl)
 
 shared-slice-read-fill-clock : tie.Need-shared-slice-read-fill-clock Inv-loop μ-loop
 shared-slice-read-fill-clock c = c .before .before .before .before .loop-test .taken

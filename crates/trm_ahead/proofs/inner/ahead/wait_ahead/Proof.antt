@@ -57,7 +57,9 @@ add-if1 c =
 
 returns : tie.Need-returns Inv-loop μ-loop
 unfolding uncachedCharge
-returns c = let n = c .before .before .before .loop .inv in (n .quietly, ap (λ (v : Visible). v .pc) (n .seen), n .phase, n .onto, refl)
+returns c =
+    let n = c .before .before .before .loop .inv in
+    (n .quietly, ap (λ (v : Visible). v .pc) (n .seen), n .phase, n .onto, refl)
 
 shared-slice-read-wait-clock : tie.Need-shared-slice-read-wait-clock Inv-loop μ-loop
 unfolding uncachedCharge
@@ -70,7 +72,8 @@ wait-clock-requires c κs =
     let u = c .before .before .before .before .before .before .before .before .before .pre .0 in (
       good-on _ _ _ _ _ _ _ _ _ _ n u .counts,
       wait-more _ _ _ _ _ (wait-facts _ _ _ _ _ _ _ _ _ u n) (n .phase) (λ z. c .before .if1
-          .left (z ∙ sym (ap (λ l. getD l (operation (c .before .before .before .before .before .before .before .before .before .args .w))
+          .left (z ∙ sym (ap (λ l. getD l (operation (c .before .before .before .before .before .before .before .before .before .args
+          .w))
           0 + 4) (c .before .before .before .before .before .before .before .before .before .pre .2)))) .1,
     )
 

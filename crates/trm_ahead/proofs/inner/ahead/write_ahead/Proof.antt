@@ -36,7 +36,9 @@ same-length c =
     .before .before .pre .0)
 
 returns : tie.Need-returns Inv-loop μ-loop
-returns c = let n = c .before .before .before .loop .inv in (n .quietly, ap (λ (v : Visible). v .pc) (n .seen), n .phase, n .onto, refl)
+returns c =
+    let n = c .before .before .before .loop .inv in
+    (n .quietly, ap (λ (v : Visible). v .pc) (n .seen), n .phase, n .onto, refl)
 
 shared-slice-read-write-clock : tie.Need-shared-slice-read-write-clock Inv-loop μ-loop
 shared-slice-read-write-clock c = c .before .before .before .before .loop-test .taken

@@ -11,7 +11,7 @@ serial-after-requires : tie.Need-serial-after-requires
 serial-after-requires c κs = search needs
 
 with-serial-requires : tie.Need-with-serial-requires
-with-serial-requires c κs = rw (c .serial-after .ensures) (c .before .pre .1 .0, c .before .pre .1 .1 .0)
+with-serial-requires c κs = rw (c .serial-after .ensures) (c .before .pre .1, c .before .pre .2)
 
 add-t7 : tie.Need-add-t7
 add-t7 c = search needs
