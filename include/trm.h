@@ -4,7 +4,7 @@
  * Link: cc program.c -I include target/staticlib/libtrm.a (made by `rt staticlib trm`), x86-64 Linux.
  *
  * Every call ends, and gives for any numbers whatever a result or a refusal: 0 for none, or one of TRM_REFUSED_.. below, the first
- * row of the table that applies. A refused call changes nothing: no store, no buffer, no lent record; the rest of its answer is 0,
+ * that applies in the order that each function gives. A refused call changes nothing: no store, no buffer, no lent record; the rest of its answer is 0,
  * except that a record passed by value comes back as it was given. Any bytes are a record: they are judged (5), never undefined.
  *
  * What a caller must guarantee, for every function here:
@@ -203,7 +203,8 @@ trm_run_answer trm_run(trm_machine machine, const uint32_t *program, size_t prog
                        const uint8_t *lines, size_t lines_length, const uint32_t *inputs, size_t inputs_length, uint8_t *bytes,
                        size_t bytes_length, uint32_t *words, size_t words_length);
 
-/* One word of data memory, a full line's word standing before the store's; changes nothing. Refused: 3, 4, 5, 9 (above FFBFH). */
+/* One word of data memory, the address taken mod the store's length, a full line's word standing before the store's; changes nothing.
+ * Refused: 3, 4, 5, 9 (above FFBFH). */
 trm_look_answer trm_look(trm_machine machine, const uint32_t *program, size_t program_words, const uint32_t *store, size_t store_words,
                          uint32_t address);
 

@@ -7,3 +7,4 @@ pub mod Numbers
 pub mod Recode
 pub mod RoundTrip
 pub mod Fields
+pub mod Plain

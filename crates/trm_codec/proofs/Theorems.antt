@@ -9,6 +9,7 @@ use Rattle.trm_codec.specs.Claims.{Claims, WordsHold}
 use Rattle.trm_codec.proofs.Laws.Numbers.{decode-number, encode-number}
 use Rattle.trm_codec.proofs.Laws.Recode.{decode-encode}
 use Rattle.trm_codec.proofs.Laws.RoundTrip.{encode-decode}
+use Rattle.trm_codec.proofs.Laws.Plain.{plain-decode, plain-encode}
 
 words-hold : WordsHold
 unfolding RowsHold decodeOf instructionOf arithmeticOf controlOf encodeOf
@@ -75,5 +76,7 @@ theorems =
       encode-decode = encode-decode;
       decode-refuses = decode-number;
       encode-refuses = encode-number;
+      plain-decode = plain-decode;
+      plain-encode = plain-encode;
       words-hold = words-hold;
     }

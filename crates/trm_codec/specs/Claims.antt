@@ -10,6 +10,8 @@ use Rattle.trm_codec.specs.Decode.{decodeOf}
 use Rattle.trm_codec.specs.Encode.{encodeOf}
 use Rattle.trm_codec.specs.Unused.{unusedZero}
 use Rattle.trm_codec.specs.Refusals.{decodeNumber, encodeNumber, wordRefusal, instructionRefusal}
+use Rattle.trm_codec.specs.declared.fields.Fields.{Fields}
+use Rattle.trm_codec.specs.Plain.{fieldsGiven, fieldsRefusal, wordGiven}
 use Rattle.trm_codec.specs.Worked.{rows, RowsHold}
 
 -- the instruction that w decodes to encodes as w with its unused bits zero
@@ -38,9 +40,19 @@ EncodeRefuses = (i : Instruction) → encodeNumber (encodeOf i) ≡ instructionR
 abbrev pub WordsHold : Type 0
 WordsHold = RowsHold rows
 
+-- The same of an instruction as plain numbers: the word that accepted fields give, decoded, gives these fields.
+abbrev pub PlainDecode : Type 0
+PlainDecode = (f : Fields) → fieldsRefusal f ≡ 0 → (wordRefusal (wordGiven f) ≡ 0) × (fieldsGiven (wordGiven f) ≡ f)
+
+-- And the fields that a word gives are accepted, and give the word with its unused bits zero.
+abbrev pub PlainEncode : Type 0
+PlainEncode = (w : ℕ) → w < 2 ^ 18 → (fieldsRefusal (fieldsGiven w) ≡ 0) × (wordGiven (fieldsGiven w) ≡ unusedZero w)
+
 pub record Claims : Type 0 where
   pub decode-encode : DecodeEncode
   pub encode-decode : EncodeDecode
   pub decode-refuses : DecodeRefuses
   pub encode-refuses : EncodeRefuses
+  pub plain-decode : PlainDecode
+  pub plain-encode : PlainEncode
   pub words-hold : WordsHold

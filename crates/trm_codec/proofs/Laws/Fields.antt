@@ -30,7 +30,7 @@ held : Instruction → Decoded → Instruction
 held j (D.Instruction i) = i
 held j D.Refused = j
 
-decoded-is : (w : ℕ) (i : Instruction) → decodeOf w ≡ D.Instruction i → instructionOf w ≡ i
+pub decoded-is : (w : ℕ) (i : Instruction) → decodeOf w ≡ D.Instruction i → instructionOf w ≡ i
 unfolding decodeOf held
 decoded-is w i e = go (ltb 0x3FFFF w) e
   where
