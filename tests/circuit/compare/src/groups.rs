@@ -23,7 +23,7 @@ pub const AGAIN: u64 = 25;
 pub const GROUPS: [Group; 4] = [
     Group {
         name: "devices only",
-        weight: "evidence from the published text: listed slips and 5, 6, 7, 14, 16, 17, 18 set aside, first NOP not counted",
+        weight: "evidence from the published text: listed slips, NZ, DIVNP, ADR16, IO1, RESET, HOLDREG, DMIO and FILL set aside",
         kind: Kind { interrupts: false, memory: false },
         held: false,
         more: &[
@@ -45,7 +45,7 @@ pub const GROUPS: [Group; 4] = [
     },
     Group {
         name: "held clocks",
-        weight: "weaker: 11-13 set aside too, so that a held clock stops every register",
+        weight: "weaker: HOLDLD, HOLDMUL and HOLDRTI set aside too, so that a held clock stops every register",
         kind: Kind { interrupts: false, memory: false },
         held: true,
         more: &[Switch::HoldLd, Switch::HoldMul, Switch::HoldRti],
@@ -53,7 +53,7 @@ pub const GROUPS: [Group; 4] = [
     },
     Group {
         name: "interrupts",
-        weight: "weaker still: 8-10 and 15 set aside too, so that the interrupt is document 01's",
+        weight: "weaker still: ACKMASK, PSRIRQ, ACKLINE and IRQ1 set aside too, so that the interrupt is document 01's",
         kind: Kind { interrupts: true, memory: false },
         held: true,
         more: &[Switch::AckMask, Switch::PsrIrq, Switch::AckLine, Switch::Irq1],
