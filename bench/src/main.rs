@@ -65,36 +65,24 @@ fn runs(turns: usize, load: &Load) {
     Best::of(turns, library, simulator).print(&format!("run, {}", load.name), "clock");
 }
 
-fn clocks(turns: usize, load: &Load) {
-    let library = || {
-        let mut store = vec![0; WORDS];
-        let mut machine = raw::reset(&store).machine;
-        timed(CALLS, || {
-            for _ in 0..CALLS {
-                machine = raw::clock_value(&machine, &load.program, &mut store, load.line, 1).machine;
-            }
-            assert_eq!(machine.clocks as usize, CALLS);
-        })
-    };
-    let simulator = || {
-        let mut store = vec![0; WORDS];
-        let mut record = simulator::reset(&store).unwrap();
-        timed(CALLS, || {
-            for _ in 0..CALLS {
-                black_box(simulator::clock(&mut record, &load.program, &mut store, load.line, 1).unwrap());
-            }
-        })
-    };
-    Best::of(turns, library, simulator).print(&format!("clock, {}", load.name), "call");
+/// One clock call of the library, the record by value or lent.
+type Clock = fn(&mut raw::Machine, &[u32], &mut [u32], u8);
+
+fn by_value(machine: &mut raw::Machine, program: &[u32], store: &mut [u32], line: u8) {
+    *machine = raw::clock_value(machine, program, store, line, 1).machine;
 }
 
-fn lent_clocks(turns: usize, load: &Load) {
+fn lent(machine: &mut raw::Machine, program: &[u32], store: &mut [u32], line: u8) {
+    black_box(raw::clock(machine, program, store, line, 1));
+}
+
+fn clocks(turns: usize, load: &Load, name: &str, clock: Clock) {
     let library = || {
         let mut store = vec![0; WORDS];
         let mut machine = raw::reset(&store).machine;
         timed(CALLS, || {
             for _ in 0..CALLS {
-                black_box(raw::clock(&mut machine, &load.program, &mut store, load.line, 1));
+                clock(&mut machine, &load.program, &mut store, load.line);
             }
             assert_eq!(machine.clocks as usize, CALLS);
         })
@@ -108,7 +96,7 @@ fn lent_clocks(turns: usize, load: &Load) {
             }
         })
     };
-    Best::of(turns, library, simulator).print(&format!("lent clock, {}", load.name), "call");
+    Best::of(turns, library, simulator).print(&format!("{name}, {}", load.name), "call");
 }
 
 fn looks(turns: usize) {
@@ -160,11 +148,10 @@ fn main() {
     for load in loads() {
         runs(turns, &load);
     }
-    for load in loads() {
-        clocks(turns, &load);
-    }
-    for load in loads() {
-        lent_clocks(turns, &load);
+    for (name, clock) in [("clock", by_value as Clock), ("lent clock", lent as Clock)] {
+        for load in loads() {
+            clocks(turns, &load, name, clock);
+        }
     }
     looks(turns);
     early_exit(turns);

@@ -6,4 +6,5 @@ pub mod Free
 pub mod Reached
 pub mod Here
 pub mod Ahead
+pub mod Serial
 pub mod Next

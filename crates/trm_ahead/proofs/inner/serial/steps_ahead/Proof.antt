@@ -1,5 +1,5 @@
 -- The proof of trm_ahead::inner::serial::steps_ahead.
-use Rattle.trm_ahead.proofs.Laws.Ahead.{Stepped, stepped-on, serial-begins, serves, serial-room}
+use Rattle.trm_ahead.proofs.Laws.Serial.{Stepped, stepped-on, serial-begins, serves, serial-room}
 use native.Mathlib.Omega.{arith}
 use Prim.Native.Nat.{_+_, _-_, _≤_}
 use mathlib.Core.Path.{refl, ap}

@@ -1,0 +1,130 @@
+-- Steps of the multiplier or the divider one after another: the invariant of their loop, and one clock more of it.
+-- Idea: of the scalars only what is in flight moves, and the counts; the clocks that were no steps were held.
+-- Assumes nothing.
+--   Stepped   what the loop keeps       serial-begins, stepped-on   no clock, one clock more       serves, serial-room   what its calls ask
+use Prim.Native.Nat.{ℕ, _+_, _-_, _≤_, _<_, _^_}
+use mathlib.Core.Path.{_≡_, refl, sym, ap, subst}
+use mathlib.Core.Logic.{_≢_}
+use mathlib.Core.Bool.{Bool, true, false, cond}
+use mathlib.Core.List.{List}
+use lib.ListN.{length, getD}
+use native.Mathlib.Omega.{arith}
+use Rattle.trm_word.specs.Fields.{operation}
+use Rattle.trm_word.specs.Charge.{chargeOf}
+use Rattle.trm_reference.specs.Execute.{operandA, operandB}
+use Rattle.trm_reference.specs.Interrupt.{stalled}
+use Rattle.trm_cache.specs.Cache.{Cache}
+use Rattle.trm_core.specs.declared.record.Running.{Running}
+use Rattle.trm_core.specs.declared.record.Scalars.{Scalars}
+use Rattle.trm_core.specs.Record.{gathered, stepping, advanced, waited}
+use Rattle.trm_steps.specs.Steps.{Serves}
+use Rattle.trm_plan.proofs.Laws.Facts.{Facts}
+use Rattle.trm_plan.proofs.Laws.Flight.{step-more, serial-count}
+use Rattle.trm_ahead.specs.declared.inner.going.Going.{Going}
+use Rattle.trm_ahead.specs.declared.inner.serial.Serial.{Serial}
+use Rattle.trm_ahead.specs.Reached.{point, Under, serialAt, withSerial}
+use Rattle.trm_ahead.proofs.Laws.Ahead.{On, on-none, reached-on, plain, one-more, step-facts, step-on}
+
+-- the scalars after no clock of steps
+serial-none : (c : Scalars) → withSerial c (record { running = c .running; held = 0 }) 0 ≡ c
+serial-none c = rw (plain (c .counts .clocks), plain (c .counts .held))
+
+-- the scalars after k clocks of steps and one more
+serial-more : (c : Scalars) (sr sr′ : Serial) (k : ℕ) (t : Bool) (next : Running)
+    → sr′ ≡ cond t (record { running = sr .running; held = sr .held + 1 }) (record { running = next; held = sr .held })
+    → withSerial c sr′ (k + 1) ≡ cond t (waited (withSerial c sr k)) (advanced (withSerial c sr k) next 0 0)
+serial-more c sr sr′ k t next e = rw e (go t)
+  where
+    go : (u : Bool)
+        → withSerial c (cond u (record { running = sr .running; held = sr .held + 1 }) (record { running = next; held = sr .held }))
+        (k + 1) ≡ cond u (waited (withSerial c sr k)) (advanced (withSerial c sr k) next 0 0)
+    go true = rw (one-more (c .counts .clocks) k, one-more (c .counts .held) (sr .held))
+    go false = rw (one-more (c .counts .clocks) k, plain (c .counts .refills), plain (c .counts .writebacks))
+
+-- phase 1 over the few values that move: k clocks of steps from g
+abbrev pub served : Going → Serial → ℕ → Going
+served g sr k = record { scalars = withSerial (g .scalars) sr k; at = g .at + k; finished = g .finished }
+
+serial-zero : (c : Scalars) → withSerial c (serialAt c (c .running) 0) 0 ≡ c
+serial-zero c =
+    let none : 0 - (c .running .count - c .running .count) ≡ 0 = omega arith in
+    rw none (serial-none c)
+
+pub serial-begins : (ls : List ℕ) (w : ℕ) (g : Going) (rs : List ℕ) (ca : Cache) (s : List ℕ) → g .scalars .running .phase ≡ 1
+    → On ls w 1 g (served g (serialAt (g .scalars) (g .scalars .running) 0) 0) rs ca ca s s
+serial-begins ls w g rs ca s e =
+    subst (λ c. On ls w 1 g (record { scalars = c; at = g .at + 0; finished = g .finished }) rs ca ca s s) (sym (serial-zero (g .scalars)))
+    (subst (λ i. On ls w 1 g (record { scalars = g .scalars; at = i; finished = g .finished }) rs ca ca s s) (sym (plain (g .at)))
+    (on-none ls w 1 g rs ca s e))
+
+-- one clock more: what is in flight and the held clocks move by whether it is held
+serial-next : (c : Scalars) (r r′ next : Running) (k : ℕ) (t : Bool) → c .running .count ≤ r .count → r .count ≤ c .running .count + k
+    → next .count ≡ r .count + 1 → r′ ≡ cond t r next
+    → serialAt c r′ (k + 1)
+    ≡ cond t (record { running = r; held = serialAt c r k .held + 1 }) (record { running = next; held = serialAt c r k .held })
+serial-next c r r′ next k true lo hi n e = rw e (ap (λ h. record { running = r; held = h }) (omega (arith, lo, hi)))
+serial-next c r r′ next k false lo hi n e = rw e (ap (λ h. record { running = next; held = h }) (omega (arith, lo, hi, n)))
+
+-- and the steps are at most the clocks
+serial-bounds : (c : Scalars) (r r′ next : Running) (k : ℕ) (t : Bool) → c .running .count ≤ r .count → r .count ≤ c .running .count + k
+    → next .count ≡ r .count + 1 → r′ ≡ cond t r next
+    → (c .running .count ≤ r′ .count) × (r′ .count ≤ c .running .count + (k + 1))
+serial-bounds c r r′ next k true lo hi n e = rw e (lo, omega (arith, hi))
+serial-bounds c r r′ next k false lo hi n e = rw e (omega (arith, lo, n), omega (arith, hi, n))
+
+module _ (ls : List ℕ) (w : ℕ) (g : Going) (sr : Serial) (k : ℕ) (rs : List ℕ) (ca : Cache) (s : List ℕ) (u : Under ls w (point g rs ca s))
+    (inv : On ls w 1 g (served g sr k) rs ca ca s s) where
+  serial-facts : Facts w (length s) (withSerial (g .scalars) sr k) rs ca
+  serial-facts = step-facts ls w g (served g sr k) rs ca ca s s u inv
+
+  more-steps : sr .running .count ≢ 32 → sr .running .count + 1 ≢ chargeOf (operation w)
+  more-steps z e = z (serial-count w (length s) (withSerial (g .scalars) sr k) rs ca serial-facts (inv .phase) e)
+
+  serial-on : g .at + k < length ls → sr .running .count ≢ 32 → (sr′ : Serial)
+      → sr′ ≡ cond (stalled (getD ls (g .at + k) 0)) (record { running = sr .running; held = sr .held + 1 })
+      (record { running = stepping w (gathered (g .scalars) rs) (sr .running .count + 1); held = sr .held })
+      → On ls w 1 g (served g sr′ (k + 1)) rs ca ca s s
+  serial-on more z sr′ e =
+      subst (λ i. On ls w 1 g (record { scalars = withSerial (g .scalars) sr′ (k + 1); at = i; finished = g .finished }) rs ca ca s s)
+      (sym (one-more (g .at) k))
+      (step-on ls w g (served g sr k) rs ca ca s s u inv more (more-steps z) (withSerial (g .scalars) sr′ (k + 1))
+      (serial-more (g .scalars) sr sr′ k (stalled (getD ls (g .at + k) 0))
+      (stepping w (gathered (g .scalars) rs) (sr .running .count + 1)) e))
+
+  pub serves : sr .running .count ≢ 32 → (a b : ℕ) → a ≡ operandA w (gathered (g .scalars) rs) → b ≡ operandB w (gathered (g .scalars) rs)
+      → Serves w (sr .running) a b
+  serves z a b p q = record {
+    seen = gathered (g .scalars) rs;
+    steps = step-more w (length s) (withSerial (g .scalars) sr k) rs ca serial-facts (inv .phase) (more-steps z) .1;
+    running = inv .phase;
+    first = p;
+    second = q;
+  }
+
+  -- there is room for the counts
+  pub serial-room : (g .at + k ≤ 65536) × (g .scalars .counts .clocks + k < 2 ^ 32) × (g .scalars .counts .held + sr .held < 2 ^ 32)
+  serial-room = let r = reached-on ls w 1 g (served g sr k) rs ca ca s s inv u in let c = serial-facts .counts in (
+    omega (arith, r .below, r .feed .many),
+    c .clocks,
+    omega (arith, c .held, c .clocks),
+  )
+
+-- what the loop over steps keeps: where it stands, and that the steps are at most the clocks
+abbrev pub Stepped : List ℕ → ℕ → Going → List ℕ → Cache → List ℕ → Running → ℕ → Type 0
+Stepped ls w g rs ca s r k =
+    On ls w 1 g (served g (serialAt (g .scalars) r k) k) rs ca ca s s × (g .scalars .running .count ≤ r .count)
+    × (r .count ≤ g .scalars .running .count + k)
+
+pub stepped-on : (ls : List ℕ) (w : ℕ) (g : Going) (rs : List ℕ) (ca : Cache) (s : List ℕ) (r r′ : Running) (k : ℕ)
+    → Under ls w (point g rs ca s) → Stepped ls w g rs ca s r k → g .at + k < length ls → r .count ≢ 32
+    → r′ ≡ cond (stalled (getD ls (g .at + k) 0)) r (stepping w (gathered (g .scalars) rs) (r .count + 1))
+    → Stepped ls w g rs ca s r′ (k + 1)
+stepped-on ls w g rs ca s r r′ k u n more z e =
+    let next = stepping w (gathered (g .scalars) rs) (r .count + 1) in
+    let t = stalled (getD ls (g .at + k) 0) in
+    let b = serial-bounds (g .scalars) r r′ next k t (n .1) (n .2) refl e in (
+      serial-on ls w g (serialAt (g .scalars) r k) k rs ca s u (n .0) more z (serialAt (g .scalars) r′ (k + 1))
+          (serial-next (g .scalars) r r′ next k t (n .1) (n .2) refl e),
+      b .0,
+      b .1,
+    )
