@@ -4,8 +4,9 @@
  * Link: cc program.c -I include target/staticlib/libtrm.a (made by `rt staticlib trm`), x86-64 Linux.
  *
  * Every call ends, and gives for any numbers whatever a result or a refusal: 0 for none, or one of TRM_REFUSED_.. below, the first
- * that applies in the order that each function gives. A refused call changes nothing: no store, no buffer, no lent record; the rest of its answer is 0,
- * except that a record passed by value comes back as it was given. Any bytes are a record: they are judged (5), never undefined.
+ * that applies in the order that each function gives. A refused call changes nothing: no store, no buffer, no lent record; the rest of
+ * its answer is 0, except that a record passed by value comes back as it was given and that an image's fault has its place. Any bytes
+ * are a record: they are judged (5), never undefined.
  *
  * What a caller must guarantee, for every function here:
  *  - a pointer with a length L points to L elements of its type, aligned, that may be read (and written, where it is not const) until the
