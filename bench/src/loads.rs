@@ -22,6 +22,16 @@ pub fn loads() -> Vec<Load> {
     ]
 }
 
+/// Arithmetic in longer programs: every call checks each word of its program.
+pub fn lengths() -> Vec<Load> {
+    let of = |name, words| {
+        let mut program = arithmetic();
+        program.resize(words, 0);
+        Load { name, program, line: 0 }
+    };
+    vec![of("256 words", 256), of("1,024 words", 1024), of("4,096 words", 4096)]
+}
+
 fn arithmetic() -> Vec<u32> {
     vec![
         literal(2, 0, 3),

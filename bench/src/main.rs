@@ -4,7 +4,7 @@
 mod loads;
 mod words;
 
-use loads::{loads, Load};
+use loads::{lengths, loads, Load};
 use std::hint::black_box;
 use std::time::Instant;
 use trm::raw;
@@ -152,6 +152,9 @@ fn main() {
         for load in loads() {
             clocks(turns, &load, name, clock);
         }
+    }
+    for load in lengths() {
+        clocks(turns, &load, "lent clock", lent);
     }
     looks(turns);
     early_exit(turns);

@@ -18,7 +18,7 @@ pub extern "C" fn trm_clock(
     ensures { λ r. ⌜ ClockNumbered (now (m .entry)) (now (program .entry)) (now (store .entry)) line input
         (withRecord (now (m .exit)) r) (now (store .exit)) ⌝ }
 {
-    let r = crate::calls::trm_clock_value(*m, program, store, line, input);
+    let r = crate::numbered::clock(*m, program, store, line, input);
     *m = r.machine;
     LentAnswer {
         number: r.number,

@@ -8,6 +8,7 @@ pub mod Rotation
 pub mod Product
 pub mod Multiplier
 pub mod Division
+pub mod Pair
 pub mod Quotient
 pub mod Floor
 pub mod Bench

@@ -4,6 +4,7 @@
 pub mod Word
 pub mod Multiply
 pub mod Divide
+pub mod Pair
 pub mod Results
 pub mod Flags
 pub mod Bench

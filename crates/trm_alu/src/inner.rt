@@ -5,4 +5,5 @@ pub mod bits;
 pub mod divide;
 pub mod flags;
 pub mod multiply;
+pub mod pair;
 pub mod sums;

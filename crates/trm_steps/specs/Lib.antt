@@ -2,3 +2,4 @@
 -- Paper: "Phase 1 needs operation 8 or 9".
 -- Assumes nothing.
 pub mod Steps
+pub mod Unit

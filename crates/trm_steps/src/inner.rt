@@ -5,3 +5,4 @@ pub mod interrupt;
 pub mod scalars;
 pub mod start;
 pub mod steps;
+pub mod unit;

@@ -1,7 +1,8 @@
 -- Steps of the multiplier or the divider one after another: the invariant of their loop, and one clock more of it.
 -- Idea: of the scalars only what is in flight moves, and the counts; the clocks that were no steps were held.
 -- Assumes nothing.
---   Stepped   what the loop keeps       serial-begins, stepped-on   no clock, one clock more       serves, serial-room   what its calls ask
+--   Stepped   what the loop keeps       stepped-begins, stepped-on   no clock, one clock more
+--   serves, packed, serial-room   what its calls ask
 use Prim.Native.Nat.{ℕ, _+_, _-_, _≤_, _<_, _^_}
 use mathlib.Core.Path.{_≡_, refl, sym, ap, subst}
 use mathlib.Core.Logic.{_≢_}
@@ -18,8 +19,9 @@ use Rattle.trm_core.specs.declared.record.Running.{Running}
 use Rattle.trm_core.specs.declared.record.Scalars.{Scalars}
 use Rattle.trm_core.specs.Record.{gathered, stepping, advanced, waited}
 use Rattle.trm_steps.specs.Steps.{Serves}
+use Rattle.trm_steps.specs.Unit.{Packs}
 use Rattle.trm_plan.proofs.Laws.Facts.{Facts}
-use Rattle.trm_plan.proofs.Laws.Flight.{step-more, serial-count}
+use Rattle.trm_plan.proofs.Laws.Flight.{step-more, serial-count, packs-word}
 use Rattle.trm_ahead.specs.declared.inner.going.Going.{Going}
 use Rattle.trm_ahead.specs.declared.inner.serial.Serial.{Serial}
 use Rattle.trm_ahead.specs.Reached.{point, Under, serialAt, withSerial}
@@ -50,7 +52,7 @@ serial-zero c =
     let none : 0 - (c .running .count - c .running .count) ≡ 0 = omega arith in
     rw none (serial-none c)
 
-pub serial-begins : (ls : List ℕ) (w : ℕ) (g : Going) (rs : List ℕ) (ca : Cache) (s : List ℕ) → g .scalars .running .phase ≡ 1
+serial-begins : (ls : List ℕ) (w : ℕ) (g : Going) (rs : List ℕ) (ca : Cache) (s : List ℕ) → g .scalars .running .phase ≡ 1
     → On ls w 1 g (served g (serialAt (g .scalars) (g .scalars .running) 0) 0) rs ca ca s s
 serial-begins ls w g rs ca s e =
     subst (λ c. On ls w 1 g (record { scalars = c; at = g .at + 0; finished = g .finished }) rs ca ca s s) (sym (serial-zero (g .scalars)))
@@ -114,6 +116,20 @@ abbrev pub Stepped : List ℕ → ℕ → Going → List ℕ → Cache → List 
 Stepped ls w g rs ca s r k =
     On ls w 1 g (served g (serialAt (g .scalars) r k) k) rs ca ca s s × (g .scalars .running .count ≤ r .count)
     × (r .count ≤ g .scalars .running .count + k)
+
+-- no clock: what is in flight, however it is told
+pub stepped-begins : (ls : List ℕ) (w : ℕ) (g : Going) (rs : List ℕ) (ca : Cache) (s : List ℕ) (r : Running) → r ≡ g .scalars .running
+    → g .scalars .running .phase ≡ 1 → Stepped ls w g rs ca s r 0
+stepped-begins ls w g rs ca s r e ph =
+    subst (λ x. Stepped ls w g rs ca s x 0) (sym e) (serial-begins ls w g rs ca s ph, omega arith, omega arith)
+
+-- what is in flight is told by one number
+pub packed : (ls : List ℕ) (w : ℕ) (g : Going) (rs : List ℕ) (ca : Cache) (s : List ℕ) → Under ls w (point g rs ca s)
+    → g .scalars .running .phase ≡ 1 → (b : ℕ) → b ≡ operandB w (gathered (g .scalars) rs) → b < 2 ^ 32 → Packs w (g .scalars .running)
+packed ls w g rs ca s u ph b q hb =
+    let none = serialAt (g .scalars) (g .scalars .running) 0 in
+    packs-word w (length s) (withSerial (g .scalars) none 0) rs ca
+    (serial-facts ls w g none 0 rs ca s u (serial-begins ls w g rs ca s ph)) ph (subst (λ x. x < 2 ^ 32) q hb)
 
 pub stepped-on : (ls : List ℕ) (w : ℕ) (g : Going) (rs : List ℕ) (ca : Cache) (s : List ℕ) (r r′ : Running) (k : ℕ)
     → Under ls w (point g rs ca s) → Stepped ls w g rs ca s r k → g .at + k < length ls → r .count ≢ 32

@@ -1,6 +1,6 @@
 // Steps of the multiplier or the divider one after another, held clocks among them.
 // Paper: "33: 32 steps, then the result"; "A clock with stall set is held".
-// Only the registers in flight and the held clocks move, so they stand in few values here.
+// Only what is in flight and the held clocks move; what is in flight stands in one number here, and is unpacked at the end.
 ghost use mathlib.Core.Path.{_≡_};
 ghost use mathlib.Core.Bool.{cond};
 ghost use Prim.Native.Nat.{_+_, _≤_, _^_, _<_};
@@ -9,14 +9,17 @@ ghost use Rattle.trm_reference.specs.Execute.{operandA, operandB};
 ghost use Rattle.trm_reference.specs.Interrupt.{stalled};
 ghost use Rattle.trm_cache.specs.Cache.{cache};
 ghost use Rattle.trm_core.specs.Record.{stepping};
+ghost use Rattle.trm_alu.specs.Pair.{placed};
 ghost use Rattle.trm_steps.specs.Steps.{Serves};
+ghost use Rattle.trm_steps.specs.Unit.{inFlight};
 ghost use Rattle.trm_ahead.specs.Reached.{point, Under, Quietly, serialAt, withSerial};
 use crate::inner::going::Going;
 use trm_core::record::Running;
 use trm_core::record::Scalars;
 use trm_reading::inner::reading;
 use trm_steps::inner::interrupt;
-use trm_steps::inner::steps;
+use trm_steps::inner::unit;
+use trm_steps::inner::unit::Unit;
 
 // What is in flight, and the clocks held meanwhile.
 pub struct Serial {
@@ -25,15 +28,15 @@ pub struct Serial {
 }
 
 // One clock: held, or one step.
-fn serial_clock(before: Running, w: u32, a: u32, b: u32, line: u8) -> Running
-    requires { ⌜ Serves w before a b ⌝ }
+fn serial_clock(u: Unit, w: u32, a: u32, b: u32, divisor: u64, line: u8) -> Unit
+    requires { ⌜ Serves w (inFlight w u) a b × (divisor ≡ placed a) ⌝ }
     ensures { λ r. ⌜ ((v : Visible) → a ≡ operandA w v → b ≡ operandB w v
-        → r ≡ cond (stalled line) before (stepping w v (before .count + 1))) ⌝ }
+        → inFlight w r ≡ cond (stalled line) (inFlight w u) (stepping w v (u .count + 1))) ⌝ }
 {
     if interrupt::is_stalled(line) {
-        return before;
+        return u;
     }
-    steps::later_step(before, w, a, b)
+    unit::step(u, w, a, b, divisor)
 }
 
 // After so many clocks: those that were no steps were held. To count them in the loop would take a register of the processor.
@@ -64,16 +67,17 @@ fn with_serial(c: Scalars, s: Serial, clocks: u64) -> Scalars
 }
 
 // Where the run stands after k clocks of this.
-fn after_serial(g: Going, after: Running, k: usize) -> Going
+fn after_serial(g: Going, u: Unit, w: u32, k: usize) -> Going
     requires { ⌜ (g .at + k ≤ 65536) × (g .scalars .counts .clocks + k < 2 ^ 32)
-        × (g .scalars .counts .held + serialAt (g .scalars) after k .held < 2 ^ 32)
-        × (g .scalars .running .count ≤ after .count) × (after .count ≤ g .scalars .running .count + k) ⌝ }
+        × (g .scalars .counts .held + serialAt (g .scalars) (inFlight w u) k .held < 2 ^ 32)
+        × (g .scalars .running .count ≤ u .count) × (u .count ≤ g .scalars .running .count + k) ⌝ }
     ensures { λ r. ⌜ r ≡ record {
-      scalars = withSerial (g .scalars) (serialAt (g .scalars) after k) k;
+      scalars = withSerial (g .scalars) (serialAt (g .scalars) (inFlight w u) k) k;
       at = g .at + k;
       finished = g .finished;
     } ⌝ }
 {
+    let after = unit::unpack(u, w);
     let s = serial_after(g.scalars, after, k as u64);
     let c = with_serial(g.scalars, s, k as u64);
     Going {
@@ -106,14 +110,15 @@ pub fn steps_ahead(
 {
     let a = reading::operand_a(g.scalars, regs, w);
     let b = reading::operand_b(g.scalars, regs, w);
-    let mut running = g.scalars.running;
+    let divisor = trm_alu::inner::pair::divisor(a);
+    let mut u = unit::pack(g.scalars.running, w);
     let mut k: usize = 0;
     while g.at + k < lines.len() {
-        if running.count == 32 {
-            return after_serial(g, running, k);
+        if u.count == 32 {
+            return after_serial(g, u, w, k);
         }
-        running = serial_clock(running, w, a, b, lines[g.at + k]);
+        u = serial_clock(u, w, a, b, divisor, lines[g.at + k]);
         k += 1;
     }
-    after_serial(g, running, k)
+    after_serial(g, u, w, k)
 }

@@ -20,7 +20,7 @@ pub struct Divided {
 }
 
 // Whether A is above 0, as a signed word: the divisors that DIV divides by.
-fn above0(a: u32) -> bool
+pub fn above0(a: u32) -> bool
     ensures { λ r. ⌜ r ≡ above0 a ⌝ }
 {
     if a == 0 {

@@ -1,7 +1,7 @@
 -- A clock is a run of one: the same refusals, and the same outcome.
 -- Idea: with one line byte every length of the run's rows computes.
 -- Assumes nothing.
---   one-free    one-ran
+--   one-refusal, one-free    one-ran
 use Prim.Native.Nat.{ℕ, _+_}
 use mathlib.Core.Path.{_≡_, refl, sym, ap, _∙_}
 use mathlib.Core.Bool.{Bool, true, false, not, _&&_}
@@ -24,10 +24,14 @@ low line = go (leb line 7) refl
     go true e = sym (le-ltb 7 line (leb-true line 7 e))
     go false e = sym (lt-ltb 7 line (leb-false line 7 e))
 
+pub one-refusal : (p : List ℕ) (m : Machine) (s : List ℕ) (line input b w : ℕ)
+    → runRefusal paperGeometry p m s (line ∷ []) (input ∷ []) (b ∷ []) (w ∷ []) ≡ clockRefusal paperGeometry p m s line
+unfolding clockRefusal runRefusal runRows clockRows linesRefused allAtMost
+one-refusal p m s line input b w = rw (low line)
+
 pub one-free : (p : List ℕ) (m : Machine) (s : List ℕ) (line input b w : ℕ) → clockRefusal paperGeometry p m s line ≡ 0
     → runRefusal paperGeometry p m s (line ∷ []) (input ∷ []) (b ∷ []) (w ∷ []) ≡ 0
-unfolding clockRefusal runRefusal runRows clockRows linesRefused allAtMost
-one-free p m s line input b w e = rw (low line) e
+one-free p m s line input b w e = one-refusal p m s line input b w ∙ e
 
 pub one-ran : (p : List ℕ) (x : Lent) (line input : ℕ) (y : Lent) (f : ℕ) (bs ws : List ℕ)
     → record { state = y; used = 1; finished = f; bytes = bs; words = ws } ≡ runOf paperGeometry p x (line ∷ []) (input ∷ [])

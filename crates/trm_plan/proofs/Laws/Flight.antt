@@ -1,7 +1,7 @@
 -- The plan in flight, a law for each way that phases 1 to 5 go on or end.
 -- Idea: the phase tells what is running; the record rule then has just the facts of that phase.
 -- Assumes nothing.
-use Prim.Native.Nat.{ℕ, _+_, _≤_, _<_}
+use Prim.Native.Nat.{ℕ, _+_, _^_, _≤_, _<_}
 use mathlib.Core.Path.{_≡_, refl, sym, _∙_, subst}
 use mathlib.Core.Logic.{_≢_}
 use mathlib.Core.Bool.{Bool, true, false, cond, _&&_, _||_}
@@ -15,6 +15,7 @@ use Rattle.trm_reference.specs.Geometry.{paperGeometry, burst, lineOf}
 use Rattle.trm_reference.specs.Visible.{Visible}
 use Rattle.trm_reference.specs.Access.{isLoad, targetBlock, targetLine}
 use Rattle.trm_reference.specs.Charge.{isStepped, turnsCacheOff, uncachedCharge}
+use Rattle.trm_reference.specs.Execute.{operandB}
 use Rattle.trm_cache.specs.Cache.{Cache, lineAt, firstDirty}
 use Rattle.trm_cache.proofs.Laws.Cache.{dirty-full}
 use Rattle.trm_cache.proofs.Laws.Dirty.{first-dirty}
@@ -27,6 +28,8 @@ use Rattle.trm_core.proofs.Laws.Kind.{Kind, quick, second, longer, device, cach
 use Rattle.trm_core.proofs.Laws.Phases.{due-is, last-1, last-2, last-3, last-4, last-5}
 use Rattle.trm_core.proofs.Laws.Phases.{advance-1, advance-2-cached, advance-2-clearing, advance-3, advance-4}
 use Rattle.trm_core.proofs.Laws.Rule.{Phase, ready, arithmetic, writeBack, clearingOff, refill, waiting, due}
+use Rattle.trm_steps.specs.Unit.{Packs}
+use Rattle.trm_steps.proofs.Laws.Unit.{packs}
 use Rattle.trm_plan.proofs.Plan.{Writes, Fills, Plan}
 use Rattle.trm_plan.proofs.Plan.{Finish, Step, Write, Fill, Wait}
 use Rattle.trm_plan.proofs.Laws.Facts.{Facts, few-waits}
@@ -52,6 +55,9 @@ module _ (w n : ℕ) (c : Scalars) (rs : List ℕ) (ca : Cache) (f : Facts w n c
 
     pub stepping-word : isStepped w ≡ true
     stepping-word = is-of w v n longer (arithmetic-is .0) .stepped
+
+    pub packs-word : operandB w v < 2 ^ 32 → Packs w (c .running)
+    packs-word hb = packs w (c .running) v stepping-word ph (arithmetic-is .1) hb (f .rule)
 
     pub serial-count : c .running .count + 1 ≡ chargeOf (operation w) → c .running .count ≡ 32
     serial-count q = let z = is-of w v n longer (arithmetic-is .0) .cost in omega (arith, q, z)

@@ -37,7 +37,7 @@ module _ (a b : ℕ) (hb : b < 2 ^ 32) where
   div-next k x y few is also = rw (is, also) (theorems .div-steps a b k hb few)
 
 -- a word that steps and is not MUL is DIV
-divides-if : (w : ℕ) → isStepped w ≡ true → operation w ≢ 8 → operation w ≡ 9
+pub divides-if : (w : ℕ) → isStepped w ≡ true → operation w ≢ 8 → operation w ≡ 9
 unfolding isStepped
 divides-if w t z = eqb-true (operation w) 9 (ap (λ (x : Bool). x || eqb (operation w) 9) (sym (ne-eqb (operation w) 8 z)) ∙ t)
 

@@ -1,5 +1,5 @@
 -- The proof of trm::image::payload_start.
-use Rattle.trm.proofs.Laws.{none-left, begins-at}
+use Rattle.trm.proofs.Laws.Payload.{none-left, begins-at}
 use native.Mathlib.Omega.{arith}
 use borrow.Author.Needs.{needs}
 use Rattle.trm.proofs.image.payload_start.Statement.{statement}

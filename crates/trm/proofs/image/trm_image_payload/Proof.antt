@@ -1,5 +1,5 @@
 -- The proof of trm::image::trm_image_payload.
-use Rattle.trm.proofs.Laws.{payload-part}
+use Rattle.trm.proofs.Laws.Payload.{payload-part}
 use mathlib.Core.Path.{ap}
 use lib.ListN.{length}
 use borrow.Author.Needs.{needs}

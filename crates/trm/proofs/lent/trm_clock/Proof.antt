@@ -1,6 +1,6 @@
 -- The record lent for one clock: a walk of its MIR, by hand. The record's borrow is opened, the whole record is copied out and passed to
--- `trm_clock_value` with the two slices, at their own lifetimes; the record that comes back is stored whole, and the borrow closed at it.
--- All that the proof knows of `trm_clock_value` is that it meets its contract. Assumes nothing.
+-- `numbered::clock` with the two slices, at their own lifetimes; the record that comes back is stored whole, and the borrow closed at it.
+-- All that the proof knows of `numbered::clock` is that it meets its contract. Assumes nothing.
 use mathlib.Core.Path.{_≡_, refl, ap}
 use Prim.Native.Nat.{ℕ, _<_, _^_}
 use mathlib.Core.List.{[], _∷_, List}
@@ -54,10 +54,10 @@ use Rattle.trm.proofs.answer.ClockAnswer as K
 use Rattle.trm.proofs.answer.ClockAnswer.Laws as K′
 use Rattle.trm.proofs.answer.LentAnswer as N
 use Rattle.trm.proofs.answer.LentAnswer.Laws as N′
-use Rattle.trm.proofs.calls.trm_clock_value as clock
-use Rattle.trm.proofs.calls.trm_clock_value.Symbol as clock-def
-use Rattle.trm.proofs.calls.trm_clock_value.Symbol.{name as #clock}
-use Rattle.trm.proofs.calls.trm_clock_value.Met as clock-thm
+use Rattle.trm.proofs.numbered.clock as clock
+use Rattle.trm.proofs.numbered.clock.Symbol as clock-def
+use Rattle.trm.proofs.numbered.clock.Symbol.{name as #clock}
+use Rattle.trm.proofs.numbered.clock.Met as clock-thm
 use Rattle.trm.proofs.lent.trm_clock.Key.{name as #clock-in-place}
 use Rattle.trm.proofs.lent.trm_clock as f
 use Rattle.trm.proofs.lent.trm_clock.Statement as stated
@@ -86,7 +86,7 @@ answerOf r = record { number = r .number; byte = r .byte; word = r .word; finish
 module _ {M : Type 1} (𝓤 : URA M) (H : Heap 𝓤) (A : Atoms 𝓤) (W : Given 𝓤 H A) (at-mem : Memory → SProp 𝓤) (run : Routine → Fun 𝓤)
     (κ κ₁ κ₂ : Lft) (q q₁ q₂ : Share) (b o : ℕ) (γ : GName) (h : Machine) (p : RefT (List ℕ)) (n i : ℕ) (n-fits : n < 2 ^ 8)
     (i-fits : i < 2 ^ 32) (b′ o′ : ℕ) (γ′ : GName) (ys : List ℕ) where
-  -- the store's slice, and what `trm_clock_value` is passed after the record
+  -- the store's slice, and what `numbered::clock` is passed after the record
   abbrev x : RefT (List ℕ)
   x = record { ptr = (b′, o′); name = γ′; now = ys }
 
@@ -124,7 +124,7 @@ module _ {M : Type 1} (𝓤 : URA M) (H : Heap 𝓤) (A : Atoms 𝓤) (W : Given
   abbrev Post : Val → SProp 𝓤
   Post = walkOf 𝓤 H A f.ended stayed (f.clauses 𝓤 H A at-mem run) .post (((κ, (κ₁, (κ₂, tt))), (q, (q₁, (q₂, tt))), tt, a, vals), tt)
 
-  -- what `trm_clock_value`'s triple binds outside: the record by value, and the slices at their own lifetimes
+  -- what `numbered::clock`'s triple binds outside: the record by value, and the slices at their own lifetimes
   abbrev to-clock : ToClock 𝓤 H A at-mem run .Ghost
   to-clock = (((κ₁, (κ₂, tt)), (q₁, (q₂, tt)), tt, (h, rest), (mach h ∷ [], after)), tt)
 
@@ -232,7 +232,7 @@ module _ {M : Type 1} (𝓤 : URA M) (H : Heap 𝓤) (A : Atoms 𝓤) (W : Given
         use1 W (later (some (λ (r : ClockAnswer). ((‵ (flft κ₁ q₁) ⊛ ‵ (flft κ₂ q₂) ⊛ ‵ ftrue) ⊛ ‵ (K.the-row .own r
         (w ∷ []))) ⊛ raw (ensured 𝓤 H A clock.ended (clock.clauses 𝓤 H A at-mem run) (κ₁, (κ₂, tt)) (h, rest) tt r))))
         (id⊢ 𝓤 _) $ await ! tt $ pick ! (λ r.
-        -- what `trm_clock_value` ensures, at some last list
+        -- what `numbered::clock` ensures, at some last list
         split ! $ move ! (1 ∷ []) $ use1 W (some (λ (zs : Unit {0} × (Unit {0} × (List ℕ × (Unit {0} × (Unit {0} × Unit {0}))))). ‵
         (lasts clock.ended (κ₁, (κ₂, tt)) (h, rest) zs) ⊛ raw (fact 𝓤 (ClockNumbered h (p .now) ys n i r (zs .1 .1 .0)))))
         (id⊢ 𝓤 _) $ pick ! (λ zs.
@@ -315,5 +315,5 @@ trm-clock-spec 𝓤 H 𝓜 𝓖 𝓡 =
     entered 𝓤 H (tripleOf 𝓤 H (𝓖 .A) f.signature (f.spec 𝓤 H (𝓖 .A) (𝓜 .mem) (𝓡 .run)))
     (tables 𝓤 H 𝓜 𝓡 code.env .C) (tables 𝓤 H 𝓜 𝓡 code.env .Λ) #clock-in-place code.function (code.unfolded 𝓤 H 𝓜 𝓡)
     (in-place-meets 𝓤 H (𝓖 .A) (givenOf 𝓤 H 𝓜 𝓖) (𝓜 .mem) (𝓡 .run) (tablesOf 𝓤 H 𝓜 (tables 𝓤 H 𝓜 𝓡 code.env))
-    (cited 𝓤 H (ToClock 𝓤 H (𝓖 .A) (𝓜 .mem) (𝓡 .run)) 𝓜 𝓡 code.env #clock clock-def.routine code.calls-trm·calls·trm-clock-value
+    (cited 𝓤 H (ToClock 𝓤 H (𝓖 .A) (𝓜 .mem) (𝓡 .run)) 𝓜 𝓡 code.env #clock clock-def.routine code.calls-trm·numbered·clock
     (clock-thm.met 𝓤 H 𝓜 𝓖 𝓡)))

@@ -6,18 +6,25 @@ use Rattle.trm_ahead.proofs.inner.serial.after_serial.Reads as reads
 use Rattle.trm_ahead.proofs.inner.serial.after_serial.Lts as lts
 use Rattle.trm_ahead.proofs.inner.serial.serial_after.Reads as serial-after-reads
 use Rattle.trm_ahead.proofs.inner.serial.with_serial.Reads as with-serial-reads
+use Rattle.trm_steps.proofs.inner.unit.unpack.Reads as unpack-reads
+
+unpack-requires : tie.Need-unpack-requires
+unpack-requires c κs = search needs
 
 serial-after-requires : tie.Need-serial-after-requires
-serial-after-requires c κs = search needs
+serial-after-requires c κs = rw (c .unpack .ensures) (c .before .pre .3, c .before .pre .4)
 
 with-serial-requires : tie.Need-with-serial-requires
-with-serial-requires c κs = rw (c .serial-after .ensures) (c .before .pre .1, c .before .pre .2)
+with-serial-requires c κs =
+    rw (c .serial-after .ensures, c .before .unpack .ensures) (c .before .before .pre .1, c .before .before .pre .2)
 
-add-t7 : tie.Need-add-t7
-add-t7 c = search needs
+add-t9 : tie.Need-add-t9
+add-t9 c = search needs
 
 returns : tie.Need-returns
-returns c = rw (c .before .with-serial .ensures, c .before .before .serial-after .ensures)
+returns c =
+    rw (c .before .with-serial .ensures, c .before .before .serial-after .ensures, c .before .before .before .unpack .ensures)
 
 pub after-serial-spec : {M : Type 1} → statement M
-after-serial-spec = tie.close (tie.spec serial-after-requires with-serial-requires add-t7 returns)
+after-serial-spec =
+    tie.close (tie.spec unpack-requires serial-after-requires with-serial-requires add-t9 returns)

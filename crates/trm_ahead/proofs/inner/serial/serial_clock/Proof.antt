@@ -5,7 +5,7 @@ use Rattle.trm_ahead.proofs.inner.serial.serial_clock.Tie as tie
 use Rattle.trm_ahead.proofs.inner.serial.serial_clock.Reads as reads
 use Rattle.trm_ahead.proofs.inner.serial.serial_clock.Lts as lts
 use Rattle.trm_steps.proofs.inner.interrupt.is_stalled.Reads as is-stalled-reads
-use Rattle.trm_steps.proofs.inner.steps.later_step.Reads as later-step-reads
+use Rattle.trm_steps.proofs.inner.unit.step.Reads as step-reads
 
 is-stalled-requires : tie.Need-is-stalled-requires
 is-stalled-requires c κs = search needs
@@ -13,11 +13,11 @@ is-stalled-requires c κs = search needs
 returns : tie.Need-returns
 returns c = λ v p q. rw (← c .before .is-stalled .ensures, c .if1 .taken)
 
-later-step-requires : tie.Need-later-step-requires
-later-step-requires c κs = c .before .before .pre
+step-requires : tie.Need-step-requires
+step-requires c κs = c .before .before .pre
 
 returns-2 : tie.Need-returns-2
-returns-2 c = λ v p q. rw (← c .before .before .is-stalled .ensures, c .before .if1 .left, c .later-step .ensures v p q)
+returns-2 c = λ v p q. rw (← c .before .before .is-stalled .ensures, c .before .if1 .left, c .step .ensures v p q)
 
 pub serial-clock-spec : {M : Type 1} → statement M
-serial-clock-spec = tie.close (tie.spec is-stalled-requires returns later-step-requires returns-2)
+serial-clock-spec = tie.close (tie.spec is-stalled-requires returns step-requires returns-2)
