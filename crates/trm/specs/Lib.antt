@@ -1,5 +1,5 @@
 -- The exported calls in definitions: what each gives on every input.
 -- Paper: "Where calls are turned down".
 -- Assumes nothing.
-pub mod Numbered
+pub mod Promises
 pub mod Layout

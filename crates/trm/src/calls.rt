@@ -1,7 +1,7 @@
 // The calls as C sees them: a slice is a pointer and a length, the record goes by value.
 // Paper: "Where calls are turned down"; "The clock call takes the record and returns it"; runs, look, copy and watch.
 // Each is the call of trm_calls or trm_inspect with the number in place of the enum.
-ghost use Rattle.trm.specs.Numbered.{ResetNumbered, ClockNumbered, RunNumbered, LookNumbered, CopyNumbered, WatchNumbered};
+ghost use Rattle.trm.specs.Promises.{ResetNumbered, ClockNumbered, RunNumbered, LookNumbered, CopyNumbered, WatchNumbered};
 use crate::answer::ClockAnswer;
 use crate::answer::LookAnswer;
 use crate::answer::ResetAnswer;
@@ -48,7 +48,7 @@ pub extern "C" fn trm_clock_value(
         number: number::number_of(refused),
         byte: bytes[0],
         word: words[0],
-        finished: r.finished,
+        finished: r.finished, // 0 or 1
     }
 }
 

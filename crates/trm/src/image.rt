@@ -2,29 +2,14 @@
 // Paper: "Images and the listing program"; "Records are checked one after another, each down the table, and the first fault counts".
 // They are `check` and `payload` of trm_image, with the number in place of the enum and with a part told by its start and length.
 ghost use mathlib.Core.Path.{_≡_};
-ghost use Rattle.trm_image.specs.Numbers.{numberOf};
-ghost use Rattle.trm.specs.Numbered.{ImageNumbered, payloadStart, PayloadPart};
-use trm_image::fault::Fault;
+ghost use Rattle.trm.specs.Promises.{ImageNumbered, payloadStart, PayloadPart};
+use trm_image::inner::number;
 
 // `at` is the byte where the record at fault begins; 0 if there is none: accepted, row 4, too long or empty.
 #[repr(C)]
 pub struct ImageAnswer {
     pub number: u32,
     pub at: u64,
-}
-
-// The number of a fault, as the table numbers its rows; 0 is none.
-fn fault_number(fault: Fault) -> u32
-    ensures { λ r. ⌜ r ≡ numberOf fault ⌝ }
-{
-    match fault {
-        Fault::Accepted => 0,
-        Fault::Frame => 1,
-        Fault::Kind => 2,
-        Fault::Program => 3,
-        Fault::Store => 4,
-        Fault::Lines => 6,
-    }
 }
 
 // The image whole, for a store of so many words.
@@ -35,7 +20,7 @@ pub extern "C" fn trm_image_check(image: &[u8], words: usize) -> ImageAnswer
     let r = trm_image::reader::check(image, words);
     let fault = r.fault;
     ImageAnswer {
-        number: fault_number(fault),
+        number: number::number_of(fault),
         at: r.at as u64,
     }
 }

@@ -1,7 +1,7 @@
 // The second entry: the record itself is lent for one clock.
 // Paper: "Later a second entry lends the record itself for one clock, with the same outcome".
 // It calls the clock that takes the record by value and stores what comes back; its proof is by hand.
-ghost use Rattle.trm.specs.Numbered.{ClockNumbered, withRecord};
+ghost use Rattle.trm.specs.Promises.{ClockNumbered, withRecord};
 use crate::answer::ClockAnswer;
 use crate::answer::LentAnswer;
 use trm_engine::machine::Machine;

@@ -1,7 +1,7 @@
 // One clock by value, with the number in place of the enum: what the lent entry calls.
 // Paper: "The clock call takes the record and returns it".
 // It is trm_calls' clock. With one caller the compiler puts all of it there, and drops copies of the record.
-ghost use Rattle.trm.specs.Numbered.{ClockNumbered};
+ghost use Rattle.trm.specs.Promises.{ClockNumbered};
 use crate::answer::ClockAnswer;
 use trm_engine::machine::Machine;
 use trm_refusals::inner::number;

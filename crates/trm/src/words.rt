@@ -1,7 +1,7 @@
 // Decode and encode, as C sees them.
 // Paper: "What a programmer sees", the format of each operation; rows 3 and 10 of the refusals.
 // They are the calls of trm_codec on an instruction as plain numbers.
-ghost use Rattle.trm_codec.specs.Plain.{DecodesPlain, EncodesPlain};
+ghost use Rattle.trm_codec.specs.Promises.{DecodesPlain, EncodesPlain};
 use trm_codec::fields::Fields;
 use trm_codec::plain::PlainDecoded;
 use trm_codec::plain::PlainEncoded;

@@ -1,7 +1,7 @@
 // Reset, clock and run, for any caller and any input.
 // Paper: "Checks go down the table .. It returns the number only and writes nothing".
 // The refusal is told first; nothing is touched before it is known that there is none.
-ghost use Rattle.trm_calls.specs.Outcome.{ResetHolds, ClockHolds, RunHolds};
+ghost use Rattle.trm_calls.specs.Promises.{ResetHolds, ClockHolds, RunHolds};
 use crate::answer::Clock;
 use crate::answer::Reset;
 use crate::answer::Run;

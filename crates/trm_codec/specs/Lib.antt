@@ -8,5 +8,6 @@ pub mod Unused
 pub mod Refusals
 pub mod Fields
 pub mod Plain
+pub mod Promises
 pub mod Worked
 pub mod Claims

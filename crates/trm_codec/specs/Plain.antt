@@ -1,17 +1,13 @@
 -- What decode and encode give a C caller on every input: the outcome of the call of trm_codec, or 10 for fields of no instruction.
 -- Paper: "What a programmer sees", the format of each operation; rows 3 and 10 of the refusals. Assumes nothing.
 --   fieldsGiven w, fieldsRefusal f, wordGiven f     what is given
---   DecodesPlain, EncodesPlain                  the whole promise of each call, r being its result
 use Prim.Native.Nat.{ℕ}
-use mathlib.Core.Path.{_≡_}
 use mathlib.Core.Bool.{cond}
 use lib.Dec.{eqb}
 use Rattle.trm_codec.specs.Decode.{instructionOf}
 use Rattle.trm_codec.specs.Encode.{placed}
 use Rattle.trm_codec.specs.Refusals.{wordRefusal}
 use Rattle.trm_codec.specs.declared.fields.Fields.{Fields}
-use Rattle.trm_codec.specs.declared.plain.PlainDecoded.{PlainDecoded}
-use Rattle.trm_codec.specs.declared.plain.PlainEncoded.{PlainEncoded}
 use Rattle.trm_codec.specs.Fields.{plainFields, fieldsOf, instructionAt, fieldsFit}
 
 -- the fields of the instruction; refused, zeros
@@ -25,11 +21,3 @@ fieldsRefusal f = cond (fieldsFit f) 0 10
 -- the word; refused, 0
 unfoldable pub wordGiven : Fields → ℕ
 wordGiven f = cond (fieldsFit f) (placed (instructionAt f)) 0
-
-pub record DecodesPlain (w : ℕ) (r : PlainDecoded) : Type 0 where
-  pub number : r .number ≡ wordRefusal w
-  pub fields : r .fields ≡ fieldsGiven w
-
-pub record EncodesPlain (f : Fields) (r : PlainEncoded) : Type 0 where
-  pub number : r .number ≡ fieldsRefusal f
-  pub word : r .word ≡ wordGiven f

@@ -1,10 +1,8 @@
--- The paper's numbers and values for the answers of decode and encode, and what the two calls promise.
+-- The paper's numbers and values for the answers of decode and encode.
 -- Paper: "Where calls are turned down", rows 3 and 10. The number 0 is no refusal.
 -- Assumes nothing.
 --   wordRefusal, instructionRefusal   the number that a word or an instruction gets
---   Decodes w r, Encodes i r          all that decode and encode promise of their answer r
 use Prim.Native.Nat.{ℕ}
-use mathlib.Core.Path.{_≡_}
 use mathlib.Core.Bool.{cond}
 use lib.Dec.{ltb}
 use Rattle.trm_codec.specs.declared.instruction.Instruction.{Instruction}
@@ -12,9 +10,7 @@ use Rattle.trm_codec.specs.declared.instruction.Decoded.{Decoded}
 use Rattle.trm_codec.specs.declared.instruction.Decoded.the-variants as D
 use Rattle.trm_codec.specs.declared.instruction.Encoded.{Encoded}
 use Rattle.trm_codec.specs.declared.instruction.Encoded.the-variants as E
-use Rattle.trm_codec.specs.Decode.{decodeOf}
-use Rattle.trm_codec.specs.Encode.{fits, placed, encodeOf}
-use Rattle.trm_codec.specs.Unused.{unusedZero}
+use Rattle.trm_codec.specs.Encode.{fits, placed}
 
 abbrev pub decodeNumber : Decoded → ℕ
 decodeNumber (D.Instruction i) = 0
@@ -41,13 +37,3 @@ wordRefusal w = cond (ltb 0x3FFFF w) 3 0
 -- 10: a field outside its width
 abbrev pub instructionRefusal : Instruction → ℕ
 instructionRefusal i = cond (fits i) 0 10
-
-pub record Decodes (w : ℕ) (r : Decoded) : Type 0 where
-  pub answer : r ≡ decodeOf w
-  pub number : decodeNumber r ≡ wordRefusal w
-  pub value : decodeValue r ≡ cond (ltb 0x3FFFF w) 0 (unusedZero w)
-
-pub record Encodes (i : Instruction) (r : Encoded) : Type 0 where
-  pub answer : r ≡ encodeOf i
-  pub number : encodeNumber r ≡ instructionRefusal i
-  pub value : encodeValue r ≡ cond (fits i) (placed i) 0

@@ -4,7 +4,7 @@
 ghost use mathlib.Core.Path.{_≡_};
 ghost use Rattle.trm_word.specs.Fields.{movesHigh};
 ghost use Rattle.trm_codec.specs.Decode.{operandOf, arithmeticOf, controlOf};
-ghost use Rattle.trm_codec.specs.Refusals.{Decodes};
+ghost use Rattle.trm_codec.specs.Promises.{Decodes};
 use crate::instruction::Decoded;
 use crate::instruction::Instruction;
 use crate::instruction::Operand;

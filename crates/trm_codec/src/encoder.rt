@@ -5,7 +5,7 @@ ghost use mathlib.Core.Path.{_≡_};
 ghost use lib.Dec.{ltb};
 ghost use Prim.Native.Nat.{_+_, _^_, _<_};
 ghost use Rattle.trm_codec.specs.Encode.{encodedAs, encodeOf, memoryEncoded};
-ghost use Rattle.trm_codec.specs.Refusals.{Encodes};
+ghost use Rattle.trm_codec.specs.Promises.{Encodes};
 use crate::instruction::Encoded;
 use crate::instruction::Instruction;
 use crate::instruction::Operand;

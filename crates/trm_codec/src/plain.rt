@@ -1,7 +1,7 @@
 // Decode and encode with the instruction as plain numbers and the paper's number in place of the enum, as C sees them.
 // Paper: "What a programmer sees", the format of each operation; rows 3 and 10 of the refusals.
 // Each is the call beside it; encode also sees to the fields that the form does not have.
-ghost use Rattle.trm_codec.specs.Plain.{DecodesPlain, EncodesPlain};
+ghost use Rattle.trm_codec.specs.Promises.{DecodesPlain, EncodesPlain};
 use crate::fields;
 use crate::fields::Fields;
 use crate::instruction::Decoded;

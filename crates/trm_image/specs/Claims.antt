@@ -1,4 +1,4 @@
--- What the check ensures, and what is claimed of images beside the contracts: one statement to a field.
+-- What is claimed of images beside the contracts: one statement to a field.
 -- Paper: "Images and the listing program"; "the first fault counts". The value is in proofs/Theorems.antt.
 -- Assumes nothing.
 use Prim.{Unit}
@@ -10,18 +10,11 @@ use mathlib.Core.List.{List, [], _∷_, _++_}
 use lib.ListN.{length}
 use Rattle.trm_core.specs.Refusals.{allAtMost}
 use Rattle.trm_word.specs.Address.{storeLengthOk}
-use Rattle.trm_image.specs.declared.fault.Checked.{Checked}
-use Rattle.trm_image.specs.Numbers.{numberOf}
 use Rattle.trm_image.specs.Records.{kindAt, recordsOf}
 use Rattle.trm_image.specs.Refused.{faultAt, imageFault}
 use Rattle.trm_image.specs.Meaning.{Image, imageOf}
 use Rattle.trm_image.specs.Cases.{CasesHold}
 use Rattle.trm_image.specs.Written.{imageBytes, Meant}
-
--- the contract of `check`, n being the store's length in words and s the image
-pub record CheckHolds (n : ℕ) (s : List ℕ) (r : Checked) : Type 0 where
-  pub number : numberOf (r .fault) ≡ imageFault n s .number
-  pub at : r .at ≡ imageFault n s .at
 
 -- the kind of the last record that begins at one of these places, 0 if there is none
 unfoldable pub lastKind : List ℕ → ℕ → List ℕ → ℕ

@@ -4,6 +4,7 @@
 pub mod Records
 pub mod Numbers
 pub mod Refused
+pub mod Promises
 pub mod Meaning
 pub mod Runs
 pub mod Written

@@ -5,7 +5,7 @@ ghost use mathlib.Core.Path.{_≡_};
 ghost use lib.Dec.{eqb};
 ghost use Rattle.trm_image.specs.Records.{payloadAt};
 ghost use Rattle.trm_image.specs.Numbers.{numberOf};
-ghost use Rattle.trm_image.specs.Claims.{CheckHolds};
+ghost use Rattle.trm_image.specs.Promises.{CheckHolds};
 use crate::fault::Checked;
 use crate::fault::Fault;
 use crate::inner::bytes;

@@ -1,7 +1,7 @@
 // Look, copy and watch, for any caller and any input.
 // Paper: "A look gives one word of data memory .. a copy fills a buffer with all of it"; "the watch names a clock, from 0, ..".
 // The refusal is told first. None of them changes the record, so look and copy do not return it.
-ghost use Rattle.trm_inspect.specs.Observed.{LookHolds, CopyHolds, WatchHolds};
+ghost use Rattle.trm_inspect.specs.Promises.{LookHolds, CopyHolds, WatchHolds};
 use crate::answer::Look;
 use crate::answer::Watch;
 use trm_core::watch::Sighting;

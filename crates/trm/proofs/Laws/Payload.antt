@@ -11,7 +11,7 @@ use lib.Dec.{ltb}
 use native.Mathlib.Omega.{arith}
 use borrow.Author.Tests.{ltb-true, lt-ltb, le-ltb}
 use Rattle.trm_image.specs.Records.{lengthAt, payloadAt}
-use Rattle.trm.specs.Numbered.{payloadStart, PayloadPart}
+use Rattle.trm.specs.Promises.{payloadStart, PayloadPart}
 
 take-own : (n : ℕ) (xs : List ℕ) → take (length (take n xs)) xs ≡ take n xs
 take-own zero xs = refl

@@ -19,8 +19,8 @@ use Rattle.trm_engine.specs.declared.machine.Machine.{Machine}
 use Rattle.trm_engine.specs.Machine.{recordOf, lent}
 use Rattle.trm_engine.proofs.Laws.One.{one-refusal, one-ran}
 use Rattle.trm_calls.specs.declared.answer.Run.{Run}
-use Rattle.trm_calls.specs.Outcome.{pins, clockGives, runGives, RunHolds}
-use Rattle.trm.specs.Numbered.{ClockNumbered}
+use Rattle.trm_calls.specs.Promises.{pins, clockGives, runGives, RunHolds}
+use Rattle.trm.specs.Promises.{ClockNumbered}
 
 module _ (p : List ℕ) (x : Lent) (line input : ℕ) where
   -- what a run of one leaves and answers, read as a clock's

@@ -8,7 +8,7 @@ use Rattle.trm_engine.specs.declared.machine.Machine.{Machine}
 use Rattle.trm_calls.specs.declared.answer.Reset.{Reset}
 use Rattle.trm_calls.specs.declared.answer.Clock.{Clock}
 use Rattle.trm_calls.specs.declared.answer.Run.{Run}
-use Rattle.trm_calls.specs.Outcome.{ResetHolds, ClockHolds, RunHolds}
+use Rattle.trm_calls.specs.Promises.{ResetHolds, ClockHolds, RunHolds}
 use Rattle.trm_agreement.specs.Contracts.{ResetMet, ClockMet, RunMet}
 
 pub reset-says : (s : List ℕ) (r : Reset) → ResetMet s r → ResetHolds s r

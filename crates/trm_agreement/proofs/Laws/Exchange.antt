@@ -25,8 +25,8 @@ use Rattle.trm_engine.specs.Machine.{recordOf, lent}
 use Rattle.trm_calls.specs.declared.answer.Reset.{Reset}
 use Rattle.trm_calls.specs.declared.answer.Clock.{Clock}
 use Rattle.trm_calls.specs.declared.answer.Run.{Run}
-use Rattle.trm_calls.specs.Outcome as outcome
-use Rattle.trm_calls.specs.Outcome.{pins, resetGives, clockGives, ran, runGives, ResetHolds, ClockHolds, RunHolds}
+use Rattle.trm_calls.specs.Promises as outcome
+use Rattle.trm_calls.specs.Promises.{pins, resetGives, clockGives, ran, runGives, ResetHolds, ClockHolds, RunHolds}
 use Rattle.trm_plan.proofs.Laws.Facts.{paper-ok}
 use Rattle.trm_agreement.specs.Log.{started, clocked, ended, clocksOf, entries, calls, logOf, returnsIn}
 use Rattle.trm_agreement.specs.Calls.{Call, clockCall, runCall, feed, answer, Ended, runEnds, numberOf}

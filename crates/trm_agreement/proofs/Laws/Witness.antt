@@ -26,7 +26,7 @@ use Rattle.trm_refusals.specs.declared.refusal.Refusal.the-variants.{Accepted, 
 use Rattle.trm_engine.specs.declared.machine.Machine.{Machine}
 use Rattle.trm_engine.specs.Machine.{recordOf, lent}
 use Rattle.trm_calls.specs.declared.answer.Reset.{Reset}
-use Rattle.trm_calls.specs.Outcome.{pins, resetGives, clockGives, runGives}
+use Rattle.trm_calls.specs.Promises.{pins, resetGives, clockGives, runGives}
 use Rattle.trm_agreement.specs.Calls.{Call, clockCall, runCall}
 use Rattle.trm_agreement.specs.Contracts.{ResetMet}
 use Rattle.trm_agreement.specs.Exchange.{Returned, clockReturned, runReturned, machineLeft, storeLeft, Meets, Exchange}

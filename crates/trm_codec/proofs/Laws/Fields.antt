@@ -15,7 +15,8 @@ use Rattle.trm_codec.specs.Encode.{fits, placed}
 use Rattle.trm_codec.specs.Refusals.{wordRefusal, instructionRefusal}
 use Rattle.trm_codec.specs.declared.fields.Fields.{Fields}
 use Rattle.trm_codec.specs.Fields.{plainFields, fieldsOf, forms, instructionAt, sameFields, fieldsFit}
-use Rattle.trm_codec.specs.Plain.{fieldsGiven, fieldsRefusal, wordGiven, DecodesPlain, EncodesPlain}
+use Rattle.trm_codec.specs.Plain.{fieldsGiven, fieldsRefusal, wordGiven}
+use Rattle.trm_codec.specs.Promises.{DecodesPlain, EncodesPlain}
 
 -- the instruction of a form that is known
 pub at-form : (f : Fields) {k : ℕ} → f .form ≡ k → getD (forms f) k (Call (f .value)) ≡ instructionAt f

@@ -13,7 +13,7 @@ use Rattle.trm_codec.specs.Decode.{instructionOf, decodeOf}
 use Rattle.trm_codec.specs.Encode.{fits, placed, encodedAs, encodeOf}
 use Rattle.trm_codec.specs.Unused.{unusedZero}
 use Rattle.trm_codec.specs.Refusals.{decodeNumber, decodeValue, encodeNumber, encodeValue, wordRefusal, instructionRefusal}
-use Rattle.trm_codec.specs.Refusals.{Decodes, Encodes}
+use Rattle.trm_codec.specs.Promises.{Decodes, Encodes}
 use Rattle.trm_codec.proofs.Laws.Recode.{recodes}
 use Rattle.trm_codec.proofs.Laws.RoundTrip.{passed}
 

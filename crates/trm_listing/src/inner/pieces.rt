@@ -4,7 +4,6 @@
 ghost use mathlib.Core.Path.{_≡_};
 ghost use Prim.Native.Nat.{_≤_};
 ghost use lib.ListN.{length};
-ghost use Rattle.trm_image.specs.Numbers.{numberOf};
 ghost use Rattle.trm_listing.specs.Loaded.{Loadable, Loaded};
 ghost use Rattle.trm_listing.specs.Pieces.{Ready, StartHolds, PieceHolds};
 use crate::inner::finish;
@@ -12,8 +11,8 @@ use crate::inner::runs;
 use crate::inner::runs::Place;
 use trm_engine::inner::start as reset;
 use trm_engine::machine::Machine;
-use trm_image::fault::Fault;
 use trm_image::inner::bytes;
+use trm_image::inner::number;
 use trm_image::inner::words as load;
 use trm_image::reader;
 use trm_lines::inner::listed::Listed;
@@ -31,20 +30,6 @@ pub struct Listing {
     pub took: u64,
     pub len: usize,
     pub over: bool,
-}
-
-// The number of a fault.
-fn number(fault: Fault) -> u64
-    ensures { λ r. ⌜ r ≡ numberOf fault ⌝ }
-{
-    match fault {
-        Fault::Accepted => 0,
-        Fault::Frame => 1,
-        Fault::Kind => 2,
-        Fault::Program => 3,
-        Fault::Store => 4,
-        Fault::Lines => 6,
-    }
 }
 
 // The store as an accepted image gives it, and where its first run begins.
@@ -71,7 +56,7 @@ pub fn first_piece(image: &[u8], program: &mut [u32], store: &mut [u32], buf: &m
     let checked = reader::check(image, 2048);
     let fault = checked.fault;
     if !reader::accepted(fault) {
-        let len = lines::put_refused(buf, 0, number(fault), checked.at as u64);
+        let len = lines::put_refused(buf, 0, number::number_of(fault) as u64, checked.at as u64);
         let none = reset::zero_record(store);
         return Listing {
             machine: none,

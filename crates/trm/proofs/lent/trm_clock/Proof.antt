@@ -44,7 +44,7 @@ use denote.Triple.Walked.{says, Stays, stay-ref, stay-dropped, gave-slice, walkO
 use denote.Triple.Walked.{ends-at, walked, walk-meets}
 use denote.Exit.{yes}
 use denote.Signature.{plain, shrSliceOf}
-use Rattle.trm.specs.Numbered.{ClockNumbered}
+use Rattle.trm.specs.Promises.{ClockNumbered}
 use Rattle.trm_engine.specs.declared.machine.Machine.{Machine}
 use Rattle.trm.specs.declared.answer.ClockAnswer.{ClockAnswer}
 use Rattle.trm.specs.declared.answer.LentAnswer.{LentAnswer}

@@ -1,7 +1,7 @@
 -- The proof of trm_calls::calls::clock.
 use Rattle.trm_refusals.proofs.Laws.{code-zero}
 use borrow.Author.Tests.{not-true, not-false}
-use Rattle.trm_calls.specs.Outcome.{clockGives}
+use Rattle.trm_calls.specs.Promises.{clockGives}
 use borrow.Author.Needs.{needs}
 use Rattle.trm_calls.proofs.calls.clock.Statement.{statement}
 use Rattle.trm_calls.proofs.calls.clock.Tie as tie

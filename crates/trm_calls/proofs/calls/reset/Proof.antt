@@ -3,7 +3,7 @@ use mathlib.Core.Path.{sym, ap, _∙_}
 use lib.Dec.{eqb}
 use borrow.Author.Tests.{not-true, not-false}
 use Rattle.trm_refusals.proofs.Laws.{reset-short}
-use Rattle.trm_calls.specs.Outcome.{resetGives}
+use Rattle.trm_calls.specs.Promises.{resetGives}
 use borrow.Author.Needs.{needs}
 use Rattle.trm_calls.proofs.calls.reset.Statement.{statement}
 use Rattle.trm_calls.proofs.calls.reset.Tie as tie

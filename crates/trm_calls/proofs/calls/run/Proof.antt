@@ -1,7 +1,7 @@
 -- The proof of trm_calls::calls::run.
 use Rattle.trm_refusals.proofs.Laws.{code-zero}
 use borrow.Author.Tests.{not-true, not-false}
-use Rattle.trm_calls.specs.Outcome.{runGives}
+use Rattle.trm_calls.specs.Promises.{runGives}
 use borrow.Author.Needs.{needs}
 use Rattle.trm_calls.proofs.calls.run.Statement.{statement}
 use Rattle.trm_calls.proofs.calls.run.Tie as tie

@@ -1,7 +1,7 @@
 -- The proof of trm_inspect::calls::copy.
 use borrow.Author.Tests.{not-true, not-false}
 use Rattle.trm_refusals.proofs.Laws.{code-zero}
-use Rattle.trm_inspect.specs.Observed.{copyGives}
+use Rattle.trm_inspect.specs.Promises.{copyGives}
 use Rattle.trm_inspect.proofs.Laws.{copy-fits}
 use borrow.Author.Needs.{needs}
 use Rattle.trm_inspect.proofs.calls.copy.Statement.{statement}

@@ -31,8 +31,11 @@ check-requires c κs = search needs
 accepted-requires : tie.Need-accepted-requires
 accepted-requires c κs = search needs
 
-number-requires : tie.Need-number-requires
-number-requires c κs = search needs
+number-of-requires : tie.Need-number-of-requires
+number-of-requires c κs = search needs
+
+cast-put-refused : tie.Need-cast-put-refused
+cast-put-refused c = search needs
 
 put-refused-requires : tie.Need-put-refused-requires
 unfolding restOf pinsLeft
@@ -51,7 +54,7 @@ returns : tie.Need-returns
 unfolding restOf pinsLeft
 returns c =
     let e = c .before .before .before .before .before .before .before .before .before .check .ensures in
-    let bad = ap (λ k. eqb k 0) (c .before .before .before .before .before .number .ensures) ∙ sym
+    let bad = ap (λ k. eqb k 0) (c .before .before .before .before .before .number-of .ensures) ∙ sym
     (c .before .before .before .before .before .before .before .before .accepted .ensures) ∙ not-true _
     (c .before .before .before .before .before .before .before .if1 .taken) in
     let refused : eqb (imageFault 2048 (c .before .before .before .before .before .before .before .before .before .before .before
@@ -59,7 +62,7 @@ returns c =
     (c .before .before .before .before .before .before .before .before .accepted .ensures) ∙ not-true _
     (c .before .before .before .before .before .before .before .if1 .taken) in
     record {
-      text = output-refused _ _ _ _ _ _ (c .before .before .before .before .before .number .ensures ∙ e .number) (e .at) bad
+      text = output-refused _ _ _ _ _ _ (c .before .before .before .before .before .number-of .ensures ∙ e .number) (e .at) bad
           (c .before .before .before .before .put-refused .ensures .0);
       ready = λ z. clash (sym z);
       fits = omega (
@@ -213,7 +216,8 @@ first-piece-spec =
     (tie.spec
     check-requires
     accepted-requires
-    number-requires
+    number-of-requires
+    cast-put-refused
     put-refused-requires
     zero-record-requires
     same-length

@@ -1,9 +1,9 @@
--- The proof of trm_images::main.
+-- The proof of trm_image_cases::main.
 -- Invariant: i is at most 1,000. The measure is what is left of it.
 use Prim.Native.Nat.{_-_, _≤_}
 use borrow.Author.Needs.{needs}
-use Rattle.trm_images.proofs.main.Statement.{statement}
-use Rattle.trm_images.proofs.main.Tie as tie
+use Rattle.trm_image_cases.proofs.main.Statement.{statement}
+use Rattle.trm_image_cases.proofs.main.Tie as tie
 
 abbrev Inv-loop : tie.InvT-loop
 Inv-loop i₀ i = i ≤ 1000

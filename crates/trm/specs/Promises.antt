@@ -19,8 +19,8 @@ use Rattle.trm_core.specs.declared.watch.Sighting.the-variants.{Clock, Nowhere}
 use Rattle.trm_core.specs.Run.{Ran}
 use Rattle.trm_engine.specs.declared.machine.Machine.{Machine}
 use Rattle.trm_engine.specs.Machine.{recordOf, lent}
-use Rattle.trm_calls.specs.Outcome.{pins, resetGives, clockGives, runGives}
-use Rattle.trm_inspect.specs.Observed.{lookGives, copyGives}
+use Rattle.trm_calls.specs.Promises.{pins, resetGives, clockGives, runGives}
+use Rattle.trm_inspect.specs.Promises.{lookGives, copyGives}
 use Rattle.trm_image.specs.Refused.{imageFault}
 use Rattle.trm_image.specs.Records.{payloadAt}
 use Rattle.trm.specs.declared.answer.ResetAnswer.{ResetAnswer}
