@@ -4,7 +4,7 @@
 --   answered, quiet-answered, onward-answered   the next point        room   what `went` asks        due-true, due-false   what `due` tells
 --   Opens, opens   what is known where a word begins        device-first, hit-first   of LD
 --   under-at, good-under, good-at-turn, long-turned   what a run that stands somewhere tells
---   idled, turned-from, at-from, long-from   of the loop over words
+--   rests, retold, turned-from, at-from, long-from   of the loop over words
 --   unraised, past-raised, raised-none   what `raised` tells
 --   last-here   the clock of phase 5        entered, ended   a word's first of two clocks, and its second
 use Prim.Native.Nat.{ℕ, _+_, _/_, _%_, _≤_, _<_}
@@ -193,7 +193,13 @@ long-turned p ls is q bs ws q′ bs′ ws′ a t = let r = t (a .from) (a .so) i
   words = r .broad ∙ sym (a .so .broad);
 }
 
--- the words of the loop from phase 0: what is in flight is told to be nothing
+-- where a run stands in phase 0, nothing is in flight
+pub rests : (p ls is : List ℕ) (g : Going) (rs : List ℕ) (ca : Cache) (s bs ws : List ℕ) → At p ls is (point g rs ca s) bs ws
+    → g .scalars .running .phase ≡ 0 → g .scalars .running ≡ inPhase 0 0
+rests p ls is g rs ca s bs ws a z =
+    let w = wordAt p (g .scalars .pc) in
+    idle-running w (length s) (g .scalars) rs ca (facts w (length s) (g .scalars) rs ca (good-at-turn p ls is w g rs ca s bs ws a refl)) z
+
 abbrev pub idled : Going → Running → Going
 idled g r =
     record {
@@ -213,18 +219,14 @@ idled g r =
       finished = g .finished;
     }
 
-idled-same : (w n : ℕ) (g : Going) (rs : List ℕ) (ca : Cache) (r : Running) → r ≡ inPhase 0 0 → Good w n (g .scalars) rs ca
-    → g .scalars .running .phase ≡ 0 → idled g r ≡ g
-idled-same w n g rs ca r e good z =
-    ap (idled g) (e ∙ sym (idle-running w n (g .scalars) rs ca (facts w n (g .scalars) rs ca good) z))
+-- what is in flight told by itself
+pub retold : (g : Going) (r : Running) → r ≡ g .scalars .running → idled g r ≡ g
+retold g r e = ap (idled g) e
 
-module _ (p ls is : List ℕ) (g : Going) (r : Running) (rs : List ℕ) (ca : Cache) (s bs ws : List ℕ)
-    (a : At p ls is (point g rs ca s) bs ws) (b : Begins ls g) (e : r ≡ inPhase 0 0) (q : Point) (bs′ ws′ : List ℕ)
-    (t : Turned p ls is (point (idled g r) rs ca s) bs ws q bs′ ws′) where
+module _ (p ls is : List ℕ) (g h : Going) (rs : List ℕ) (ca : Cache) (s bs ws : List ℕ) (a : At p ls is (point g rs ca s) bs ws)
+    (e : h ≡ g) (q : Point) (bs′ ws′ : List ℕ) (t : Turned p ls is (point h rs ca s) bs ws q bs′ ws′) where
   pub turned-from : Turned p ls is (point g rs ca s) bs ws q bs′ ws′
-  turned-from x₀ k = t x₀ (subst (λ y. Reached p ls is x₀ (point y rs ca s) bs ws)
-      (sym (idled-same (wordAt p (g .scalars .pc)) (length s) g rs ca r e
-      (good-at-turn p ls is (wordAt p (g .scalars .pc)) g rs ca s bs ws a refl) (b .idle))) k)
+  turned-from x₀ k = t x₀ (subst (λ y. Reached p ls is x₀ (point y rs ca s) bs ws) (sym e) k)
 
   pub at-from : At p ls is q bs′ ws′
   at-from = record { from = a .from; so = turned-from (a .from) (a .so) }

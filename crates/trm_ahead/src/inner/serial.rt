@@ -9,7 +9,7 @@ ghost use Rattle.trm_reference.specs.Execute.{operandA, operandB};
 ghost use Rattle.trm_reference.specs.Interrupt.{stalled};
 ghost use Rattle.trm_cache.specs.Cache.{cache};
 ghost use Rattle.trm_core.specs.Record.{stepping};
-ghost use Rattle.trm_alu.specs.Pair.{placed};
+ghost use Rattle.trm_alu.specs.Pair.{pairDivisor};
 ghost use Rattle.trm_steps.specs.Steps.{Serves};
 ghost use Rattle.trm_steps.specs.Unit.{inFlight};
 ghost use Rattle.trm_ahead.specs.Reached.{point, Under, Quietly, serialAt, withSerial};
@@ -29,7 +29,7 @@ pub struct Serial {
 
 // One clock: held, or one step.
 fn serial_clock(u: Unit, w: u32, a: u32, b: u32, divisor: u64, line: u8) -> Unit
-    requires { ⌜ Serves w (inFlight w u) a b × (divisor ≡ placed a) ⌝ }
+    requires { ⌜ Serves w (inFlight w u) a b × (divisor ≡ pairDivisor a) ⌝ }
     ensures { λ r. ⌜ ((v : Visible) → a ≡ operandA w v → b ≡ operandB w v
         → inFlight w r ≡ cond (stalled line) (inFlight w u) (stepping w v (u .count + 1))) ⌝ }
 {

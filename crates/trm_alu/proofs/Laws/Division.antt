@@ -4,6 +4,7 @@
 --   above0-pos, -true                  when A is above 0       quotient-digits   q × a + r has quotient q, remainder r
 --   magnitude, -le, -plus, -minus      |B|                     rem-is, quot-is   the registers for A above 0
 --   registers-none, div-start, div-closed, div-step            both 0 for A not above 0; before, after k, one more
+--   taken-lt                           how many bits t has
 use mathlib.Core.Path.{_≡_, refl, sym, ap, ap₂, _∙_, subst}
 use mathlib.Core.Bool.{Bool, true, false, not, cond, and-eq-true-iff}
 use Prim.Native.Nat.{ℕ, _+_, _-_, _*_, _/_, _%_, _^_, _≤_, _<_}
@@ -121,6 +122,13 @@ module _ (a b : ℕ) (ha : 0 < a) (ha′ : a < 2 ^ 31) where
       let s = shl-mod (magnitude b) (32 - k) k 32 (omega arith) in
       rw e (divider-same (sym (rem-is k)) (omega (arith, quot-is k)))
 
+-- after k steps t has k bits
+pub taken-lt : (b k : ℕ) → b < 2 ^ 32 → k ≤ 32 → magnitude b / 2 ^ (32 - k) < 2 ^ k
+taken-lt b k hb hk =
+    let s : 32 ≡ k + (32 - k) = omega arith in
+    let l : magnitude b < 2 ^ 32 = omega (arith, magnitude-le b hb) in
+    shr-lt k (32 - k) (subst (λ (x : ℕ). magnitude b < 2 ^ x) s l)
+
 -- step k + 1 takes in bit i = 31 − k of the magnitude; t is the magnitude down to that bit
 module _ (a b k i : ℕ) (ha : 0 < a) (ha′ : a < 2 ^ 31) (hb : b < 2 ^ 32) (hi : i + k ≡ 31) where
   t : ℕ
@@ -131,10 +139,7 @@ module _ (a b k i : ℕ) (ha : 0 < a) (ha′ : a < 2 ^ 31) (hb : b < 2 ^ 32) (hi
   t-half = ap (λ (x : ℕ). magnitude b / 2 ^ x) (omega arith) ∙ sym (shr-shr (magnitude b) i 1)
 
   t-half-lt : t / 2 < 2 ^ k
-  t-half-lt =
-      let s : 32 ≡ k + (32 - k) = omega arith in
-      let l : magnitude b < 2 ^ 32 = omega (arith, magnitude-le b hb) in
-      subst (λ (x : ℕ). x < 2 ^ k) t-half (shr-lt k (32 - k) (subst (λ (x : ℕ). magnitude b < 2 ^ x) s l))
+  t-half-lt = subst (λ (x : ℕ). x < 2 ^ k) t-half (taken-lt b k hb (omega arith))
 
   -- the quotient register: the next bit on top, then the bits that are left, then the quotient so far
   rest : ℕ

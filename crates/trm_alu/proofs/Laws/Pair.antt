@@ -2,29 +2,22 @@
 -- Idea: the pair doubled is the trial above what is left of the quotient register; A goes into the trial where A in its place goes into it.
 -- Assumes nothing.
 --   quot-fits, rem-fits   the registers' widths        pair-step   from the pair after k steps to that after one more
-use mathlib.Core.Path.{_≡_, refl, sym, ap, _∙_, subst}
+use mathlib.Core.Path.{_≡_, refl, ap, _∙_}
 use mathlib.Core.Bool.{Bool, true, false, cond}
 use Prim.Native.Nat.{ℕ, _+_, _-_, _*_, _/_, _%_, _^_, _≤_, _<_}
 use native.Mathlib.Nat.{mod-lt, div-le-self, lt-of-le-of-lt}
 use native.Mathlib.Omega.{arith}
 use lib.Dec.{ltb}
-use lib.Pow.{shr-lt}
 use borrow.Author.Tests.{lt-ltb, le-ltb, ltb-true, ltb-false}
 use Rattle.trm_alu.specs.declared.inner.divide.Divider.{Divider}
 use Rattle.trm_alu.specs.Divide.{above0, divRem, divQuot, dividerAt, divTrial, divRest, divStep}
-use Rattle.trm_alu.specs.Pair.{paired, placed, pairStep}
+use Rattle.trm_alu.specs.Pair.{paired, pairDivisor, pairStep}
 use Rattle.trm_alu.proofs.Laws.Modular.{parts-lt}
-use Rattle.trm_alu.proofs.Laws.Division.{above0-true, magnitude, magnitude-le, rem-is, quot-is, div-step}
+use Rattle.trm_alu.proofs.Laws.Division.{above0-true, magnitude, taken-lt, rem-is, quot-is, div-step}
 
 -- ---- the registers' widths
 
 module _ (a b k : ℕ) (hb : b < 2 ^ 32) (hk : k ≤ 32) where
-  taken-lt : magnitude b / 2 ^ (32 - k) < 2 ^ k
-  taken-lt =
-      let s : 32 ≡ k + (32 - k) = omega arith in
-      let l : magnitude b < 2 ^ 32 = omega (arith, magnitude-le b hb) in
-      shr-lt k (32 - k) (subst (λ (x : ℕ). magnitude b < 2 ^ x) s l)
-
   pub quot-fits : divQuot a b k < 2 ^ 32
   unfolding divQuot
   quot-fits = go (above0 a) refl
@@ -34,7 +27,7 @@ module _ (a b k : ℕ) (hb : b < 2 ^ 32) (hk : k ≤ 32) where
           let p = above0-true a e in
           rw (quot-is a b (p .0) (p .1) k)
           (parts-lt (magnitude b) (magnitude b / 2 ^ (32 - k) / a) (32 - k) k 32 (omega arith)
-          (lt-of-le-of-lt (div-le-self (magnitude b / 2 ^ (32 - k)) a) taken-lt))
+          (lt-of-le-of-lt (div-le-self (magnitude b / 2 ^ (32 - k)) a) (taken-lt b k hb hk)))
       go false e = rw e (omega arith)
 
 pub rem-fits : (a b k : ℕ) → divRem a b k < 2 ^ 31
@@ -58,8 +51,8 @@ module _ (rem quot a : ℕ) (ha : a < 2 ^ 31) (hr : rem < 2 ^ 31) (hq : quot < 2
   unfolding divRest
   rest-lt = omega arith
 
-  any-step : above0 a ≡ true → pairStep (paired rem quot) (placed a) ≡ paired (divStep rem quot a .rem) (divStep rem quot a .quot)
-  unfolding pairStep placed paired divStep
+  any-step : above0 a ≡ true → pairStep (paired rem quot) (pairDivisor a) ≡ paired (divStep rem quot a .rem) (divStep rem quot a .quot)
+  unfolding pairStep pairDivisor paired divStep
   any-step e = rw (e, doubled) (go (ltb (divTrial rem quot) a) refl)
     where
       go : (t : Bool) → ltb (divTrial rem quot) a ≡ t
@@ -77,12 +70,12 @@ module _ (rem quot a : ℕ) (ha : a < 2 ^ 31) (hr : rem < 2 ^ 31) (hq : quot < 2
           (omega (arith, ltb-false (divTrial rem quot) a s))
 
 pub pair-step : (a b k : ℕ) → b < 2 ^ 32 → k < 32
-    → pairStep (paired (divRem a b k) (divQuot a b k)) (placed a) ≡ paired (divRem a b (k + 1)) (divQuot a b (k + 1))
-unfolding pairStep paired placed divRem divQuot
+    → pairStep (paired (divRem a b k) (divQuot a b k)) (pairDivisor a) ≡ paired (divRem a b (k + 1)) (divQuot a b (k + 1))
+unfolding pairStep paired pairDivisor divRem divQuot
 pair-step a b k hb hk = go (above0 a) refl
   where
     go : (t : Bool) → above0 a ≡ t
-        → pairStep (paired (divRem a b k) (divQuot a b k)) (placed a) ≡ paired (divRem a b (k + 1)) (divQuot a b (k + 1))
+        → pairStep (paired (divRem a b k) (divQuot a b k)) (pairDivisor a) ≡ paired (divRem a b (k + 1)) (divQuot a b (k + 1))
     go true e =
         let p = above0-true a e in
         any-step (divRem a b k) (divQuot a b k) a (p .1) (rem-fits a b k) (quot-fits a b k hb (omega (arith, hk))) e

@@ -2,11 +2,11 @@
 // Paper: "With t = floor(|B|/2^(32-k)), the divider holds remainder t mod A and quotient register ..".
 // A step is `divide::step` on the pair: it goes left by one place, and A is taken off where it goes. It does not see B.
 ghost use mathlib.Core.Path.{_≡_};
-ghost use Rattle.trm_alu.specs.Pair.{placed, pairStep};
+ghost use Rattle.trm_alu.specs.Pair.{pairDivisor, pairStep};
 
 // A in the remainder's place; for A at or below 0 a number above the pair of such a divider, which is 0.
 pub fn divisor(a: u32) -> u64
-    ensures { λ r. ⌜ r ≡ placed a ⌝ }
+    ensures { λ r. ⌜ r ≡ pairDivisor a ⌝ }
 {
     if !super::divide::above0(a) {
         return 0x8000_0000_0000_0000;

@@ -239,6 +239,21 @@ fn raised(status: u64, line: u8) -> bool
     interrupt::interrupt_chosen(status, line) != 0
 }
 
+// The same: nothing is in flight in phase 0. The compiler learns it here, and carries nothing of it round a loop.
+fn at_rest(g: Going) -> Going
+    requires { ⌜ g .scalars .running ≡ inPhase 0 0 ⌝ }
+    ensures { λ r. ⌜ r ≡ g ⌝ }
+{
+    let mut c = g.scalars;
+    let idle = scalars::in_phase(0, 0);
+    c.running = idle;
+    Going {
+        scalars: c,
+        at: g.at,
+        finished: g.finished,
+    }
+}
+
 // Words one after another, until a clock is held or takes an interrupt, a longer word is in flight, or the lines are over.
 pub fn ready_turn(
     g: Going,
@@ -264,14 +279,7 @@ pub fn ready_turn(
         (now (store .exit)))
         (now (bytes .exit)) (now (outs .exit)) × (g .at < r .at) ⌝ }
 {
-    let mut c = g.scalars;
-    let idle = scalars::in_phase(0, 0);
-    c.running = idle; // it is so, and the compiler learns it here
-    let mut h = Going {
-        scalars: c,
-        at: g.at,
-        finished: g.finished,
-    };
+    let mut h = at_rest(g);
     while h.at < lines.len() {
         let at = h.at;
         if raised(h.scalars.status, lines[at]) {
@@ -300,6 +308,7 @@ pub fn ready_turn(
         if h.scalars.running.phase != 0 {
             return h;
         }
+        h = at_rest(h);
     }
     h
 }

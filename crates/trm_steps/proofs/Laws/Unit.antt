@@ -14,7 +14,7 @@ use Rattle.trm_laws.proofs.Tests.{test-at}
 use Rattle.trm_word.specs.Fields.{operation}
 use Rattle.trm_alu.specs.Multiply.{mulAfter, mulStep}
 use Rattle.trm_alu.specs.Divide.{divRem, divQuot}
-use Rattle.trm_alu.specs.Pair.{paired, placed, pairStep}
+use Rattle.trm_alu.specs.Pair.{paired, pairDivisor, pairStep}
 use Rattle.trm_alu.proofs.Laws.Pair.{rem-fits, quot-fits, pair-step}
 use Rattle.trm_reference.specs.Visible.{Visible}
 use Rattle.trm_reference.specs.Execute.{operandA, operandB}
@@ -92,14 +92,14 @@ module _ (w : ℕ) (v : Visible) (u : Unit) (a b : ℕ) (ha : a < 2 ^ 32) (hb : 
       omega (arith, up′, down′)
 
   pub pair-stepped : operation w ≢ 8
-      → inFlight w (record { value = pairStep (u .value) (placed a); count = u .count + 1 }) ≡ stepping w v (u .count + 1)
+      → inFlight w (record { value = pairStep (u .value) (pairDivisor a); count = u .count + 1 }) ≡ stepping w v (u .count + 1)
   unfolding paired
   pair-stepped n =
       let few = k .steps .few in
       let i = u .count + 1 in
-      let next : pairStep (u .value) (placed a) ≡ divRem a b i * 2 ^ 32 + divQuot a b i =
-      ap (λ x. pairStep x (placed a)) (pair-is n) ∙ pair-step a b (u .count) hb few in
+      let next : pairStep (u .value) (pairDivisor a) ≡ divRem a b i * 2 ^ 32 + divQuot a b i =
+      ap (λ x. pairStep x (pairDivisor a)) (pair-is n) ∙ pair-step a b (u .count) hb few in
       let fits = quot-fits a b i hb (omega (arith, few)) in
-      let up : pairStep (u .value) (placed a) / 2 ^ 32 ≡ divRem a b i = omega (arith, next, fits) in
-      let down : pairStep (u .value) (placed a) % 2 ^ 32 ≡ divQuot a b i = omega (arith, next, fits) in
+      let up : pairStep (u .value) (pairDivisor a) / 2 ^ 32 ≡ divRem a b i = omega (arith, next, fits) in
+      let down : pairStep (u .value) (pairDivisor a) % 2 ^ 32 ≡ divQuot a b i = omega (arith, next, fits) in
       rw (ne-eqb (operation w) 8 n, up, down, p, q) (divided-is w v i (k .steps .stepped) n)

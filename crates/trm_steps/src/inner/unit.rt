@@ -3,7 +3,7 @@
 // A loop over steps holds this, since it takes few registers of the processor. Each step is one of trm_alu's.
 ghost use mathlib.Core.Path.{_≡_};
 ghost use Prim.Native.Nat.{_+_};
-ghost use Rattle.trm_alu.specs.Pair.{placed};
+ghost use Rattle.trm_alu.specs.Pair.{pairDivisor};
 ghost use Rattle.trm_reference.specs.Visible.{Visible};
 ghost use Rattle.trm_reference.specs.Execute.{operandA, operandB};
 ghost use Rattle.trm_core.specs.Record.{stepping};
@@ -58,7 +58,7 @@ pub fn unpack(u: Unit, w: u32) -> Running
 
 // One step of the word's own unit. A is there for the contract: the multiplier does not see it, the divider sees it in its place.
 pub fn step(u: Unit, w: u32, a: u32, b: u32, divisor: u64) -> Unit
-    requires { ⌜ Serves w (inFlight w u) a b × (divisor ≡ placed a) ⌝ }
+    requires { ⌜ Serves w (inFlight w u) a b × (divisor ≡ pairDivisor a) ⌝ }
     ensures { λ r. ⌜ ((v : Visible) → a ≡ operandA w v → b ≡ operandB w v → inFlight w r ≡ stepping w v (u .count + 1)) ⌝ }
 {
     if w / 0x4000 % 16 == 8 {

@@ -2,7 +2,7 @@
 -- Idea: its test on A is that of the definition.
 -- Assumes nothing.
 use borrow.Author.Tests.{not-false}
-use Rattle.trm_alu.specs.Pair.{placed}
+use Rattle.trm_alu.specs.Pair.{pairDivisor}
 use Rattle.trm_alu.proofs.Laws.Division.{above0-no}
 use borrow.Author.Needs.{needs}
 use Rattle.trm_alu.proofs.inner.pair.divisor.Statement.{statement}
@@ -12,14 +12,14 @@ above0-requires : tie.Need-above0-requires
 above0-requires c κs = search needs
 
 returns : tie.Need-returns
-unfolding placed
+unfolding pairDivisor
 returns c = rw (above0-no _ _ (c .before .above0 .ensures) (c .if1 .taken))
 
 mul-result : tie.Need-mul-result
 mul-result c = search needs
 
 returns-2 : tie.Need-returns-2
-unfolding placed
+unfolding pairDivisor
 returns-2 c = rw (← c .before .above0 .ensures, not-false (c .before .above0 .result) (c .if1 .left))
 
 pub divisor-spec : {M : Type 1} → statement M
