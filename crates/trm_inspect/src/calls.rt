@@ -4,9 +4,10 @@
 ghost use Rattle.trm_inspect.specs.Promises.{LookHolds, CopyHolds, WatchHolds};
 use crate::answer::Look;
 use crate::answer::Watch;
+use crate::inner::memory;
+use crate::inner::watch;
 use trm_core::watch::Sighting;
 use trm_engine::machine::Machine;
-use trm_observe::inner::memory;
 use trm_refusals::inner::calls;
 use trm_refusals::inner::record;
 use trm_refusals::refusal::Refusal;
@@ -84,7 +85,7 @@ pub fn watch(bytes: &[u8], device: u32) -> Watch
             sighting: Sighting::Nowhere,
         };
     }
-    let sighting = trm_observe::inner::watch::find_write(bytes, device);
+    let sighting = watch::find_write(bytes, device);
     Watch {
         refused: refused,
         sighting: sighting,

@@ -2,7 +2,7 @@
 use borrow.Author.Tests.{not-true, not-false}
 use Rattle.trm_refusals.proofs.Laws.{code-zero}
 use Rattle.trm_inspect.specs.Promises.{copyGives}
-use Rattle.trm_inspect.proofs.Laws.{copy-fits}
+use Rattle.trm_inspect.proofs.Laws.Accepted.{copy-fits}
 use borrow.Author.Needs.{needs}
 use Rattle.trm_inspect.proofs.calls.copy.Statement.{statement}
 use Rattle.trm_inspect.proofs.calls.copy.Tie as tie

@@ -3,7 +3,7 @@ use borrow.Author.Tests.{not-true, not-false}
 use Rattle.trm_core.specs.Observe.{lookAt}
 use Rattle.trm_refusals.proofs.Laws.{code-zero}
 use Rattle.trm_inspect.specs.Promises.{lookGives}
-use Rattle.trm_inspect.proofs.Laws.{look-legal}
+use Rattle.trm_inspect.proofs.Laws.Accepted.{look-legal}
 use borrow.Author.Needs.{needs}
 use Rattle.trm_inspect.proofs.calls.look.Statement.{statement}
 use Rattle.trm_inspect.proofs.calls.look.Tie as tie

@@ -2,7 +2,7 @@
 use borrow.Author.Tests.{not-true, not-false}
 use mathlib.Core.Path.{refl}
 use Rattle.trm_refusals.proofs.Laws.{code-zero}
-use Rattle.trm_inspect.proofs.Laws.{never-zero, never-nine}
+use Rattle.trm_inspect.proofs.Laws.Accepted.{never-zero, never-nine}
 use borrow.Author.Needs.{needs}
 use Rattle.trm_inspect.proofs.calls.watch.Statement.{statement}
 use Rattle.trm_inspect.proofs.calls.watch.Tie as tie

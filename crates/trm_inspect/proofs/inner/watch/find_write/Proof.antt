@@ -1,13 +1,13 @@
--- The proof of trm_observe::inner::watch::find_write.
+-- The proof of trm_inspect::inner::watch::find_write.
 -- Invariant: none of the first i bytes shows the device written. The measure is the bytes left.
 use Prim.Native.Nat.{_-_}
 use lib.ListN.{length}
 use mathlib.Core.Path.{sym, _∙_}
 use native.Mathlib.Omega.{arith}
 use borrow.Author.Needs.{needs}
-use Rattle.trm_observe.proofs.Laws.{Unseen, unseen-none, unseen-more, unseen-end, seen}
-use Rattle.trm_observe.proofs.inner.watch.find_write.Statement.{statement}
-use Rattle.trm_observe.proofs.inner.watch.find_write.Tie as tie
+use Rattle.trm_inspect.proofs.Laws.Loops.{Unseen, unseen-none, unseen-more, unseen-end, seen}
+use Rattle.trm_inspect.proofs.inner.watch.find_write.Statement.{statement}
+use Rattle.trm_inspect.proofs.inner.watch.find_write.Tie as tie
 
 abbrev Inv-loop : tie.InvT-loop
 Inv-loop bytes device i₀ i = Unseen bytes device i

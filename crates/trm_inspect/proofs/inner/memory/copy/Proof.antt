@@ -1,4 +1,4 @@
--- The proof of trm_observe::inner::memory::copy.
+-- The proof of trm_inspect::inner::memory::copy.
 -- Invariant: the first i words are copied. The measure is the words left.
 use Prim.Native.Nat.{_-_}
 use lib.ListN.{length}
@@ -6,9 +6,9 @@ use mathlib.Core.Path.{sym, _∙_}
 use native.Mathlib.Omega.{arith}
 use borrow.Author.Needs.{needs}
 use Rattle.trm_cache.specs.Cache.{cache}
-use Rattle.trm_observe.proofs.Laws.{Copied, copied-none, copied-more, copied-end}
-use Rattle.trm_observe.proofs.inner.memory.copy.Statement.{statement}
-use Rattle.trm_observe.proofs.inner.memory.copy.Tie as tie
+use Rattle.trm_inspect.proofs.Laws.Loops.{Copied, copied-none, copied-more, copied-end}
+use Rattle.trm_inspect.proofs.inner.memory.copy.Statement.{statement}
+use Rattle.trm_inspect.proofs.inner.memory.copy.Tie as tie
 
 abbrev Inv-loop : tie.InvT-loop
 Inv-loop full dirty block words store buffer₀ i₀ buffer i = Copied (cache full dirty block words) store i buffer

@@ -1,9 +1,9 @@
--- The proof of trm_observe::inner::watch::shows_write.
+-- The proof of trm_inspect::inner::watch::shows_write.
 use mathlib.Core.Path.{sym}
-use Rattle.trm_observe.proofs.Laws.{no-write, write-to}
+use Rattle.trm_inspect.proofs.Laws.Loops.{no-write, write-to}
 use borrow.Author.Needs.{needs}
-use Rattle.trm_observe.proofs.inner.watch.shows_write.Statement.{statement}
-use Rattle.trm_observe.proofs.inner.watch.shows_write.Tie as tie
+use Rattle.trm_inspect.proofs.inner.watch.shows_write.Statement.{statement}
+use Rattle.trm_inspect.proofs.inner.watch.shows_write.Tie as tie
 
 returns : tie.Need-returns
 returns c = sym (no-write _ _ (c .if1 .taken))

@@ -1,8 +1,8 @@
--- The proof of trm_observe::inner::memory::look.
+-- The proof of trm_inspect::inner::memory::look.
 use native.Mathlib.Nat.{mod-lt}
 use Rattle.trm_word.proofs.Laws.Length.{length-power, power-pos}
-use Rattle.trm_observe.proofs.inner.memory.look.Statement.{statement}
-use Rattle.trm_observe.proofs.inner.memory.look.Tie as tie
+use Rattle.trm_inspect.proofs.inner.memory.look.Statement.{statement}
+use Rattle.trm_inspect.proofs.inner.memory.look.Tie as tie
 
 rem-a : tie.Need-rem-a
 rem-a c = power-pos (length-power _ (c .before .pre))
