@@ -3,4 +3,4 @@
 // No call has a `requires`, none changes the record, and every refused call leaves each lent buffer as it was.
 pub mod answer;
 pub mod calls;
-pub mod inner;
+mod inner;
