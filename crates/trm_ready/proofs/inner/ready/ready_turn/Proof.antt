@@ -55,26 +55,20 @@ raised-requires c κs = search needs
 same-length : tie.Need-same-length Inv-loop μ-loop
 same-length c =
     let c10 = c .before .before .before .before .before .before .before .before .before .before in
-    let a = c10 .before .before .before .pre .0 in
-    let n = c .before .before .before .before .before .loop .inv in
-    let e = c .before .before .before .before .before .before .at-rest .ensures in
-    long-from _ _ _ (c10 .before .before .before .args .g) _ _ _ _ _ _ a e _ _ _ (n .0) .store
+    long-from _ _ _ (c10 .before .before .before .args .g) _ _ _ _ _ _ (c10 .before .before .before .pre .0) (c .before .before
+    .before .before .before .before .at-rest .ensures) _ _ _ (c .before .before .before .before .before .loop .inv .0) .store
 
 same-length-2 : tie.Need-same-length-2 Inv-loop μ-loop
 same-length-2 c =
     let c10 = c .before .before .before .before .before .before .before .before .before .before in
-    let a = c10 .before .before .before .pre .0 in
-    let n = c .before .before .before .before .before .loop .inv in
-    let e = c .before .before .before .before .before .before .at-rest .ensures in
-    long-from _ _ _ (c10 .before .before .before .args .g) _ _ _ _ _ _ a e _ _ _ (n .0) .bytes
+    long-from _ _ _ (c10 .before .before .before .args .g) _ _ _ _ _ _ (c10 .before .before .before .pre .0) (c .before .before
+    .before .before .before .before .at-rest .ensures) _ _ _ (c .before .before .before .before .before .loop .inv .0) .bytes
 
 same-length-3 : tie.Need-same-length-3 Inv-loop μ-loop
 same-length-3 c =
     let c10 = c .before .before .before .before .before .before .before .before .before .before in
-    let a = c10 .before .before .before .pre .0 in
-    let n = c .before .before .before .before .before .loop .inv in
-    let e = c .before .before .before .before .before .before .at-rest .ensures in
-    long-from _ _ _ (c10 .before .before .before .args .g) _ _ _ _ _ _ a e _ _ _ (n .0) .words
+    long-from _ _ _ (c10 .before .before .before .args .g) _ _ _ _ _ _ (c10 .before .before .before .pre .0) (c .before .before
+    .before .before .before .before .at-rest .ensures) _ _ _ (c .before .before .before .before .before .loop .inv .0) .words
 
 returns : tie.Need-returns Inv-loop μ-loop
 returns c =
@@ -194,33 +188,27 @@ same-length-4 c =
     let c10 = c .before .before .before .before .before .before .before .before .before .before in
     let c20 = c10 .before .before .before .before .before .before .before .before .before .before in
     let c30 = c20 .before .before .before .before .before .before .before .before .before .before in
-    let a = c30 .before .before .pre .0 in
-    let n = c20 .before .before .before .before .loop .inv in
-    let e = c20 .before .before .before .before .before .at-rest .ensures in
-    long-from _ _ _ (c30 .before .before .args .g) _ _ _ _ _ _ a e _ _ _ ((λ x₀ k. c .before .before .before .before .before .before
-    .before .before .begin .ensures .0 x₀ (n .0 x₀ k))) .store
+    long-from _ _ _ (c30 .before .before .args .g) _ _ _ _ _ _ (c30 .before .before .pre .0) (c20 .before .before .before .before
+    .before .at-rest .ensures) _ _ _ (λ x₀ k. c .before .before .before .before .before .before .before .before .begin .ensures .0
+    x₀ (c20 .before .before .before .before .loop .inv .0 x₀ k)) .store
 
 same-length-5 : tie.Need-same-length-5 Inv-loop μ-loop
 same-length-5 c =
     let c10 = c .before .before .before .before .before .before .before .before .before .before in
     let c20 = c10 .before .before .before .before .before .before .before .before .before .before in
     let c30 = c20 .before .before .before .before .before .before .before .before .before .before in
-    let a = c30 .before .before .pre .0 in
-    let n = c20 .before .before .before .before .loop .inv in
-    let e = c20 .before .before .before .before .before .at-rest .ensures in
-    long-from _ _ _ (c30 .before .before .args .g) _ _ _ _ _ _ a e _ _ _ ((λ x₀ k. c .before .before .before .before .before .before
-    .before .before .begin .ensures .0 x₀ (n .0 x₀ k))) .bytes
+    long-from _ _ _ (c30 .before .before .args .g) _ _ _ _ _ _ (c30 .before .before .pre .0) (c20 .before .before .before .before
+    .before .at-rest .ensures) _ _ _ (λ x₀ k. c .before .before .before .before .before .before .before .before .begin .ensures .0
+    x₀ (c20 .before .before .before .before .loop .inv .0 x₀ k)) .bytes
 
 same-length-6 : tie.Need-same-length-6 Inv-loop μ-loop
 same-length-6 c =
     let c10 = c .before .before .before .before .before .before .before .before .before .before in
     let c20 = c10 .before .before .before .before .before .before .before .before .before .before in
     let c30 = c20 .before .before .before .before .before .before .before .before .before .before in
-    let a = c30 .before .before .pre .0 in
-    let n = c20 .before .before .before .before .loop .inv in
-    let e = c20 .before .before .before .before .before .at-rest .ensures in
-    long-from _ _ _ (c30 .before .before .args .g) _ _ _ _ _ _ a e _ _ _ ((λ x₀ k. c .before .before .before .before .before .before
-    .before .before .begin .ensures .0 x₀ (n .0 x₀ k))) .words
+    long-from _ _ _ (c30 .before .before .args .g) _ _ _ _ _ _ (c30 .before .before .pre .0) (c20 .before .before .before .before
+    .before .at-rest .ensures) _ _ _ (λ x₀ k. c .before .before .before .before .before .before .before .before .begin .ensures .0
+    x₀ (c20 .before .before .before .before .loop .inv .0 x₀ k)) .words
 
 returns-2 : tie.Need-returns-2 Inv-loop μ-loop
 returns-2 c =
@@ -290,26 +278,20 @@ loop-again-2 c =
 same-length-7 : tie.Need-same-length-7 Inv-loop μ-loop
 same-length-7 c =
     let c10 = c .before .before .before .before .before .before .before .before .before .before in
-    let a = c10 .pre .0 in
-    let n = c .before .before .loop .inv in
-    let e = c .before .before .before .at-rest .ensures in
-    long-from _ _ _ (c10 .args .g) _ _ _ _ _ _ a e _ _ _ (n .0) .store
+    long-from _ _ _ (c10 .args .g) _ _ _ _ _ _ (c10 .pre .0) (c .before .before .before .at-rest .ensures) _ _ _ (c .before .before
+    .loop .inv .0) .store
 
 same-length-8 : tie.Need-same-length-8 Inv-loop μ-loop
 same-length-8 c =
     let c10 = c .before .before .before .before .before .before .before .before .before .before in
-    let a = c10 .pre .0 in
-    let n = c .before .before .loop .inv in
-    let e = c .before .before .before .at-rest .ensures in
-    long-from _ _ _ (c10 .args .g) _ _ _ _ _ _ a e _ _ _ (n .0) .bytes
+    long-from _ _ _ (c10 .args .g) _ _ _ _ _ _ (c10 .pre .0) (c .before .before .before .at-rest .ensures) _ _ _ (c .before .before
+    .loop .inv .0) .bytes
 
 same-length-9 : tie.Need-same-length-9 Inv-loop μ-loop
 same-length-9 c =
     let c10 = c .before .before .before .before .before .before .before .before .before .before in
-    let a = c10 .pre .0 in
-    let n = c .before .before .loop .inv in
-    let e = c .before .before .before .at-rest .ensures in
-    long-from _ _ _ (c10 .args .g) _ _ _ _ _ _ a e _ _ _ (n .0) .words
+    long-from _ _ _ (c10 .args .g) _ _ _ _ _ _ (c10 .pre .0) (c .before .before .before .at-rest .ensures) _ _ _ (c .before .before
+    .loop .inv .0) .words
 
 returns-3 : tie.Need-returns-3 Inv-loop μ-loop
 returns-3 c =
