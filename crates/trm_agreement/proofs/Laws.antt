@@ -1,4 +1,5 @@
--- The steps of the proof, in order: any two machines in step, the history, the relation, one clock, the list, what the calls hand back.
+-- The steps of the proof, in order: any two machines in step, the history, the relation, one clock, one log; what a clock adds to the
+-- book, the audit of the log; what the calls hand back, and demand 3.
 -- Idea: the reference machine is the record's visible part and counts with a flat memory, a history and clocks left.
 -- Assumes nothing.
 pub mod Simulate
@@ -12,12 +13,18 @@ pub mod First
 pub mod Bounds
 pub mod Clock
 pub mod Accepted
-pub mod Demand
-pub mod Ledger
+pub mod SameLog
+pub mod Log
+pub mod Numbers
 pub mod Interrupts
 pub mod Devices
-pub mod Numbers
+pub mod Counts
+pub mod Book
+pub mod Audit
 pub mod Runs
 pub mod Contracts
 pub mod Witness
+pub mod Own
 pub mod Exchange
+pub mod Typed
+pub mod Demand

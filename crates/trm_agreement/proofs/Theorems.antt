@@ -1,32 +1,38 @@
 -- The claims of this crate, proved: the value of the record of `specs/Claims.antt`.
 -- Idea: each field is a law of Laws/.
 -- Assumes nothing.
-use Rattle.trm_agreement.specs.Claims.{Claims}
-use Rattle.trm_agreement.proofs.Laws.Demand.{same-log}
-use Rattle.trm_agreement.proofs.Laws.Numbers.{never-five, calls-are-clocks}
-use Rattle.trm_agreement.proofs.Laws.Runs.{runs-are-runs, prefix-accepted}
-use Rattle.trm_agreement.proofs.Laws.Witness.{exchange-exists}
-use Rattle.trm_agreement.proofs.Laws.Exchange.{same-exchange, exchange-never-five, refused-keeps, run-prefix}
-use Rattle.trm_agreement.proofs.Laws.Ledger.{ledger-kept, bounded}
-use Rattle.trm_agreement.proofs.Laws.Devices.{devices-hold, quiet-clocks}
-use Rattle.trm_agreement.proofs.Laws.Interrupts.{interrupts-hold}
+use Prim.Native.Nat.{ℕ}
+use mathlib.Core.List.{List}
+use Rattle.trm_reference.specs.Geometry.{Geometry}
+use Rattle.trm_reference.specs.Reference.{Reference}
+use Rattle.trm_agreement.specs.Calls.{Call, feed, answer, referenceEngine}
+use Rattle.trm_agreement.specs.Log.{logOf, answersIn, clockedIn}
+use Rattle.trm_agreement.specs.Claims.{CallsAreClocks, Claims}
+use Rattle.trm_agreement.proofs.Laws.Log.{calls-state, calls-clocked, calls-answers}
+use Rattle.trm_agreement.proofs.Laws.Bounds.{bounded}
+use Rattle.trm_agreement.proofs.Laws.Runs.{runs-are-runs}
+use Rattle.trm_agreement.proofs.Laws.Own.{own-answered}
+use Rattle.trm_agreement.proofs.Laws.Audit.{plain-machine}
+use Rattle.trm_agreement.proofs.Laws.Typed.{of-the-code}
+use Rattle.trm_agreement.proofs.Laws.Demand.{demand-3, every-geometry}
+
+calls-are-clocks : (G : Geometry) (p : List ℕ) (q : Reference) (cs : List Call) → CallsAreClocks G p q cs
+unfolding logOf answersIn clockedIn referenceEngine
+calls-are-clocks G p q cs = record {
+  state = calls-state feed answer (referenceEngine G p) q cs;
+  clocked = calls-clocked feed answer (referenceEngine G p) q cs;
+  answers = calls-answers feed answer (referenceEngine G p) q cs;
+}
 
 pub theorems : Claims
 theorems =
     record {
-      same-exchange = same-exchange;
-      exchange-exists = exchange-exists;
-      same-log = same-log;
-      exchange-never-five = exchange-never-five;
-      never-five = never-five;
-      refused-keeps = refused-keeps;
+      demand-3 = demand-3;
+      every-geometry = every-geometry;
+      plain-machine = plain-machine;
+      bounded = bounded;
       calls-are-clocks = calls-are-clocks;
       runs-are-runs = runs-are-runs;
-      run-prefix = run-prefix;
-      prefix-accepted = prefix-accepted;
-      ledger-kept = ledger-kept;
-      bounded = bounded;
-      devices-hold = devices-hold;
-      quiet = quiet-clocks;
-      interrupts-hold = interrupts-hold;
+      own-answered = own-answered;
+      of-the-code = of-the-code;
     }

@@ -1,12 +1,18 @@
--- The contracts of the three calls as plain facts: what the functions' own `ensures` say of a result and of the buffers at exit.
+-- The contracts of the calls as plain facts: what the functions' own `ensures` say of a result and of the buffers at exit.
 -- Paper: "For each callable function and all inputs, refused ones too, a contract gives its result ..".
--- Assumes nothing. A slice that is lent is a reference, of which a contract sees the list it holds before and after.
---   ResetMet, ClockMet, RunMet    the `ensures` of trm_calls' reset, clock and run
+-- Assumes nothing. A slice or a record that is lent is a reference, of which a contract sees what it holds before and after.
+--   ShippedReset, ShippedValue, ShippedLent, ShippedRun    the `ensures` of trm's trm_reset, trm_clock_value, trm_clock and trm_run
+--   ResetMet, ClockMet, RunMet                             those of trm_calls' reset, clock and run
 use Prim.Native.Nat.{ℕ}
-use mathlib.Core.Path.{_≡_}
+use mathlib.Core.Path.{_≡_, refl}
 use mathlib.Core.List.{List}
+use base.Logic.{emp}
 use contract.Lifetimes.{Lfts}
 use denote.Ref.{RefT}
+use denote.Triple.Clauses.{AtExit}
+use borrow.Fn.Claims.{AllOf}
+use borrow.Fn.World.{ArgsD, ResD}
+use borrow.Fn.Read.{all-models, r-last, no-know}
 use Rattle.trm_engine.specs.declared.machine.Machine.{Machine}
 use Rattle.trm_calls.specs.declared.answer.Reset.{Reset}
 use Rattle.trm_calls.specs.declared.answer.Clock.{Clock}
@@ -14,6 +20,66 @@ use Rattle.trm_calls.specs.declared.answer.Run.{Run}
 use Rattle.trm_calls.proofs.calls.reset.Reads as reset-reads
 use Rattle.trm_calls.proofs.calls.clock.Reads as clock-reads
 use Rattle.trm_calls.proofs.calls.run.Reads as run-reads
+use Rattle.trm.specs.declared.answer.ResetAnswer.{ResetAnswer}
+use Rattle.trm.specs.declared.answer.ClockAnswer.{ClockAnswer}
+use Rattle.trm.specs.declared.answer.LentAnswer.{LentAnswer}
+use Rattle.trm.specs.declared.answer.RunAnswer.{RunAnswer}
+use Rattle.trm.proofs.calls.trm_reset.Reads as shipped-reset
+use Rattle.trm.proofs.calls.trm_clock_value.Reads as shipped-value
+use Rattle.trm.proofs.calls.trm_run.Reads as shipped-run
+use Rattle.trm.proofs.lent.trm_clock as shipped-lent
+
+pub record ShippedReset (s : List ℕ) (r : ResetAnswer) : Type 0 where
+  pub lifetimes : Lfts 1
+  pub store : RefT (List ℕ)
+  pub holds : store .now ≡ s
+  pub ensures : shipped-reset.Post lifetimes (store, tt) r (store, tt)
+
+pub record ShippedValue (m : Machine) (p s : List ℕ) (line input : ℕ) (r : ClockAnswer) (s′ : List ℕ) : Type 0 where
+  pub lifetimes : Lfts 2
+  pub program : RefT (List ℕ)
+  pub store : RefT (List ℕ)
+  pub store′ : RefT (List ℕ)
+  pub holds : (program .now ≡ p) × (store .now ≡ s) × (store′ .now ≡ s′)
+  pub ensures : shipped-value.Post lifetimes (m, (program, (store, (line, (input, tt))))) r
+      (m, (program, (store′, (line, (input, tt)))))
+
+-- The lent entry is proved by hand, so no reading of its `ensures` is made for it: this is one, of the clause itself, as the checker
+-- makes those of the other functions.
+abbrev lentPost : (κs : Lfts 3) → ArgsD shipped-lent.signature κs → ResD shipped-lent.signature κs → AtExit shipped-lent.ended κs → Type 0
+lentPost κs a r e =
+    AllOf (all-models {Base = λ w. emp (w .𝓤)} {Know = no-know}
+    (λ w. shipped-lent.clauses (w .𝓤) (w .H) (w .𝓖 .A) (w .𝓜 .mem) (w .𝓡 .run) κs a .ensures tt r e)
+    (λ w. r-last _) (λ w. refl) (λ w. refl) (λ w. refl) .owes)
+
+-- its record is lent: m before and m′ after
+pub record ShippedLent (m : Machine) (p s : List ℕ) (line input : ℕ) (m′ : Machine) (r : LentAnswer) (s′ : List ℕ) : Type 0 where
+  pub lifetimes : Lfts 3
+  pub machine : RefT Machine
+  pub machine′ : RefT Machine
+  pub program : RefT (List ℕ)
+  pub store : RefT (List ℕ)
+  pub store′ : RefT (List ℕ)
+  pub holds : (machine .now ≡ m) × (machine′ .now ≡ m′) × (program .now ≡ p) × (store .now ≡ s) × (store′ .now ≡ s′)
+  pub ensures : lentPost lifetimes (machine, (program, (store, (line, (input, tt))))) r
+      (machine′, (program, (store′, (line, (input, tt)))))
+
+pub record ShippedRun (m : Machine) (p s lines inputs bytes words : List ℕ) (r : RunAnswer) (s′ bytes′ words′ : List ℕ) : Type 0 where
+  pub lifetimes : Lfts 6
+  pub program : RefT (List ℕ)
+  pub store : RefT (List ℕ)
+  pub store′ : RefT (List ℕ)
+  pub lineBytes : RefT (List ℕ)
+  pub inputWords : RefT (List ℕ)
+  pub answerBytes : RefT (List ℕ)
+  pub answerBytes′ : RefT (List ℕ)
+  pub answerWords : RefT (List ℕ)
+  pub answerWords′ : RefT (List ℕ)
+  pub holds : (program .now ≡ p) × (store .now ≡ s) × (store′ .now ≡ s′) × (lineBytes .now ≡ lines) × (inputWords .now ≡ inputs)
+      × (answerBytes .now ≡ bytes) × (answerBytes′ .now ≡ bytes′) × (answerWords .now ≡ words) × (answerWords′ .now ≡ words′)
+  pub ensures : shipped-run.Post lifetimes
+      (m, (program, (store, (lineBytes, (inputWords, (answerBytes, (answerWords, tt))))))) r
+      (m, (program, (store′, (lineBytes, (inputWords, (answerBytes′, (answerWords′, tt)))))))
 
 pub record ResetMet (s : List ℕ) (r : Reset) : Type 0 where
   pub lifetimes : Lfts 1

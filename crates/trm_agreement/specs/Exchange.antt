@@ -1,81 +1,137 @@
 -- An exchange: a list of calls, each with whatever it handed back that its contract allows, and the log of what was handed back.
 -- Paper: "Demand 3 is one statement on the whole list, not one on each call"; "The clock call takes the record and returns it".
 -- Assumes nothing.
---   Returned                  what a call handed back: its result, and the lent buffers at exit
---   Meets p m s c a           the contract of the call c, made with the record m and the store s, allows a
---   Exchange p m s cs as      every call is met, and the next one starts from the record returned and the store at exit
---   exchangeOf p m s cs as    its log, from the first record on
+--   Starts s m, Fails s m     a reset of the store s, accepted or refused, returned the record m
+--   Returned                  what a call handed back: its number, the record and the store it left, and what it reports
+--   Meets p m s c a           a function that makes the call c handed back a: by value, lent or a run, in any mixture
+--   Exchange p m s cs as      every call is met, and the next one is made with the record and the store left
+--   exchangeLog G p m s cs as    the log of what was handed back, after the start
 use Prim.Native.Nat.{ℕ}
+use mathlib.Core.Path.{_≡_}
+use mathlib.Core.Logic.{_≢_}
 use mathlib.Core.Bool.{cond}
 use mathlib.Core.List.{List, [], _∷_, _++_}
 use lib.Dec.{eqb}
-use Rattle.trm_reference.specs.Geometry.{paperGeometry}
-use Rattle.trm_reference.specs.Access.{Answer}
+use Rattle.trm_reference.specs.Geometry.{Geometry}
+use Rattle.trm_reference.specs.Access.{Answer, silent}
+use Rattle.trm_reference.specs.Trace.{Pins, clocks}
+use Rattle.trm_core.specs.Clock.{clockOf}
 use Rattle.trm_refusals.specs.Numbers.{numberOf as refusalNumber}
 use Rattle.trm_engine.specs.declared.machine.Machine.{Machine}
 use Rattle.trm_engine.specs.Machine.{lent}
+use Rattle.trm_calls.specs.declared.answer.Reset.{Reset}
 use Rattle.trm_calls.specs.declared.answer.Clock.{Clock}
 use Rattle.trm_calls.specs.declared.answer.Run.{Run}
-use Rattle.trm_agreement.specs.Log.{Entry, started, clocked, ended, clocksOf, entries}
-use Rattle.trm_agreement.specs.Calls.{Call, clockCall, runCall, feed, answer, Ended, clockEnds, runEnds, Seen}
+use Rattle.trm.specs.declared.answer.ResetAnswer.{ResetAnswer}
+use Rattle.trm.specs.declared.answer.ClockAnswer.{ClockAnswer}
+use Rattle.trm.specs.declared.answer.LentAnswer.{LentAnswer}
+use Rattle.trm.specs.declared.answer.RunAnswer.{RunAnswer}
+use Rattle.trm_agreement.specs.Log.{clocked, ended, entries}
+use Rattle.trm_agreement.specs.Calls.{Call, clockCall, runCall, feed, answer, Ended, clockEnds, runEnds, Seen, Line}
 use Rattle.trm_agreement.specs.Calls.{recordSeen, recordEngine}
-use Rattle.trm_agreement.specs.Contracts.{ClockMet, RunMet}
+use Rattle.trm_agreement.specs.Contracts.{ShippedReset, ShippedValue, ShippedLent, ShippedRun, ResetMet, ClockMet, RunMet}
 
--- store, bytes and words are the lent buffers as the call leaves them
+-- an accepted reset: trm_reset, or trm_calls' own
+pub data Starts (s : List ℕ) : Machine → Type 0 where
+  shipped : (r : ResetAnswer) → ShippedReset s r → r .number ≡ 0 → Starts s (r .machine)
+  own : (r : Reset) → ResetMet s r → refusalNumber (r .refused) ≡ 0 → Starts s (r .machine)
+
+-- a refused one
+pub data Fails (s : List ℕ) : Machine → Type 0 where
+  shippedNot : (r : ResetAnswer) → ShippedReset s r → r .number ≢ 0 → Fails s (r .machine)
+  ownNot : (r : Reset) → ResetMet s r → refusalNumber (r .refused) ≢ 0 → Fails s (r .machine)
+
+-- the number, the record that is returned or was lent, and the lent buffers as the call leaves them
 pub data Returned : Type 0 where
-  clockReturned : (r : Clock) (store : List ℕ) → Returned
-  runReturned : (r : Run) (store bytes words : List ℕ) → Returned
+  clockReturned : (number : ℕ) (left : Machine) (store : List ℕ) (out : Answer) → Returned
+  runReturned : (number : ℕ) (left : Machine) (store : List ℕ) (used finished : ℕ) (bytes words : List ℕ) → Returned
 
 unfoldable pub codeReturned : Returned → ℕ
-codeReturned (clockReturned r store) = refusalNumber (r .refused)
-codeReturned (runReturned r store bytes words) = refusalNumber (r .refused)
+codeReturned (clockReturned number left store out) = number
+codeReturned (runReturned number left store used finished bytes words) = number
 
 unfoldable pub machineLeft : Returned → Machine
-machineLeft (clockReturned r store) = r .machine
-machineLeft (runReturned r store bytes words) = r .machine
+machineLeft (clockReturned number left store out) = left
+machineLeft (runReturned number left store used finished bytes words) = left
 
 unfoldable pub storeLeft : Returned → List ℕ
-storeLeft (clockReturned r store) = store
-storeLeft (runReturned r store bytes words) = store
+storeLeft (clockReturned number left store out) = store
+storeLeft (runReturned number left store used finished bytes words) = store
 
--- what the call's contract promises of its result and of the buffers at exit, and nothing else
-unfoldable pub Meets : List ℕ → Machine → List ℕ → Call → Returned → Type 0
-Meets p m s (clockCall line input) (clockReturned r s′) = ClockMet m p s line input r s′
-Meets p m s (clockCall line input) (runReturned r s′ bytes′ words′) = ⊥
-Meets p m s (runCall lines inputs bytes words) (clockReturned r s′) = ⊥
-Meets p m s (runCall lines inputs bytes words) (runReturned r s′ bytes′ words′) =
-    RunMet m p s lines inputs bytes words r s′ bytes′ words′
+-- what a call hands back that is refused with this number: all as it was given
+unfoldable pub asGiven : Machine → List ℕ → Call → ℕ → Returned
+asGiven m s (clockCall line input) number = clockReturned number m s (silent 0)
+asGiven m s (runCall lines inputs bytes words) number = runReturned number m s 0 0 bytes words
 
--- refused or not, the next call is made with the record returned and the store at exit
+abbrev pub asAnswer : ℕ → ℕ → ℕ → Answer
+asAnswer byte word finished = record { byte = byte; word = word; done = finished }
+
+-- what the contract of a function promises of its result, of a lent record and of the buffers at exit, and nothing else: a clock call
+-- by trm_clock_value or by trm_clock, which is lent the record, a run by trm_run; or either by the function of trm_calls
+pub data Meets (p : List ℕ) (m : Machine) (s : List ℕ) : Call → Returned → Type 0 where
+  byValue : (line input : ℕ) (r : ClockAnswer) (s′ : List ℕ) → ShippedValue m p s line input r s′
+      → Meets p m s (clockCall line input) (clockReturned (r .number) (r .machine) s′ (asAnswer (r .byte) (r .word) (r .finished)))
+  byLending : (line input : ℕ) (m′ : Machine) (r : LentAnswer) (s′ : List ℕ) → ShippedLent m p s line input m′ r s′
+      → Meets p m s (clockCall line input) (clockReturned (r .number) m′ s′ (asAnswer (r .byte) (r .word) (r .finished)))
+  byRun : (lines inputs bytes words : List ℕ) (r : RunAnswer) (s′ bytes′ words′ : List ℕ)
+      → ShippedRun m p s lines inputs bytes words r s′ bytes′ words′
+      → Meets p m s (runCall lines inputs bytes words)
+      (runReturned (r .number) (r .machine) s′ (r .used) (r .finished) bytes′ words′)
+  ownClock : (line input : ℕ) (r : Clock) (s′ : List ℕ) → ClockMet m p s line input r s′
+      → Meets p m s (clockCall line input)
+      (clockReturned (refusalNumber (r .refused)) (r .machine) s′ (asAnswer (r .byte) (r .word) (r .finished)))
+  ownRun : (lines inputs bytes words : List ℕ) (r : Run) (s′ bytes′ words′ : List ℕ)
+      → RunMet m p s lines inputs bytes words r s′ bytes′ words′
+      → Meets p m s (runCall lines inputs bytes words)
+      (runReturned (refusalNumber (r .refused)) (r .machine) s′ (r .used) (r .finished) bytes′ words′)
+
+-- refused or not, the next call is made with the record and the store that are left
 unfoldable pub Exchange : List ℕ → Machine → List ℕ → List Call → List Returned → Type 0
 Exchange p m s [] [] = Unit {0}
 Exchange p m s [] (a ∷ as′) = ⊥
 Exchange p m s (c ∷ cs) [] = ⊥
 Exchange p m s (c ∷ cs) (a ∷ as′) = Meets p m s c a × Exchange p (machineLeft a) (storeLeft a) cs as′
 
--- The clocks of a call: a clock call that is not refused shows the record returned, the store at exit and the answer returned.
--- A run hands back its last state alone: its clocks are those of the clock history (see `RunPrefix`), its last state is in its end.
-unfoldable pub shown : List ℕ → Machine → List ℕ → Call → Returned → List (Entry Answer Seen Ended)
-shown p m s c (clockReturned r s′) =
-    cond (eqb (refusalNumber (r .refused)) 0)
-    (clocked (recordSeen paperGeometry p (lent (r .machine) s′)) (record { byte = r .byte; word = r .word; done = r .finished }) ∷ [])
-    []
-shown p m s c (runReturned r s′ bytes′ words′) =
-    entries feed answer (recordEngine paperGeometry p) (clocksOf feed answer (recordEngine paperGeometry p) (lent m s) c)
+-- the record and the store that the last call left
+unfoldable pub machineAt : Machine → List Returned → Machine
+machineAt m [] = m
+machineAt m (a ∷ as′) = machineAt (machineLeft a) as′
+
+unfoldable pub storeAt : List ℕ → List Returned → List ℕ
+storeAt s [] = s
+storeAt s (a ∷ as′) = storeAt (storeLeft a) as′
 
 -- what a call returned, and the buffers that a run left
 unfoldable pub endedBy : Returned → Ended
-endedBy (clockReturned r s′) = clockEnds (refusalNumber (r .refused))
-endedBy (runReturned r s′ bytes′ words′) = runEnds (refusalNumber (r .refused)) (r .used) (r .finished) bytes′ words′
+endedBy (clockReturned number left store out) = clockEnds number
+endedBy (runReturned number left store used finished bytes words) = runEnds number used finished bytes words
 
--- the end of a call, refused or not, shows the record returned and the store at exit
-unfoldable pub exchangeLog : List ℕ → Machine → List ℕ → List Call → List Returned → List (Entry Answer Seen Ended)
-exchangeLog p m s [] as′ = []
-exchangeLog p m s (c ∷ cs) [] = []
-exchangeLog p m s (c ∷ cs) (a ∷ as′) =
-    shown p m s c a
-    ++ ended (recordSeen paperGeometry p (lent (machineLeft a) (storeLeft a))) (endedBy a)
-    ∷ exchangeLog p (machineLeft a) (storeLeft a) cs as′
+-- the one clock of a clock call, with what it was fed
+unfoldable pub alone : Seen → Answer → List Pins → List Line
+alone w o [] = []
+alone w o (i ∷ is) = clocked i w o ∷ []
 
-unfoldable pub exchangeOf : List ℕ → Machine → List ℕ → List Call → List Returned → List (Entry Answer Seen Ended)
-exchangeOf p m s cs as′ = started (recordSeen paperGeometry p (lent m s)) ∷ exchangeLog p m s cs as′
+-- what is seen of a record with its store
+abbrev pub seenAt : Geometry → Machine → List ℕ → Seen
+seenAt G m s = recordSeen G (lent m s)
+
+module _ (G : Geometry) (p : List ℕ) where
+  -- the clock history of a record and its store, which the contract of a run cites
+  unfoldable pub clockHistory : Machine → List ℕ → List Pins → List Line
+  clockHistory m s is = entries feed answer (recordEngine G p) (clocks (clockOf G p) (lent m s) is) is
+
+  -- The clocks of a call that is not refused. A clock call's clock is the record and the store left and the answer returned. A run
+  -- hands back its last state alone, which its end shows: its clocks are the clock history, each of which `run-prefix` of `Demand3`
+  -- ties to what the run of as many line bytes hands back.
+  unfoldable pub shown : Machine → List ℕ → Call → Returned → List Line
+  shown m s c (clockReturned number left store out) = cond (eqb number 0) (alone (seenAt G left store) out (feed c)) []
+  shown m s c (runReturned number left store used finished bytes words) = cond (eqb number 0) (clockHistory m s (feed c)) []
+
+  -- the entries after the start; the end of a call, refused or not, shows the record and the store left
+  unfoldable pub exchangeLog : Machine → List ℕ → List Call → List Returned → List Line
+  exchangeLog m s [] as′ = []
+  exchangeLog m s (c ∷ cs) [] = []
+  exchangeLog m s (c ∷ cs) (a ∷ as′) =
+      shown m s c a
+      ++ ended (seenAt G (machineLeft a) (storeLeft a)) (endedBy a)
+      ∷ exchangeLog (machineLeft a) (storeLeft a) cs as′

@@ -1,5 +1,5 @@
 -- EVERY CLAIM of the project beside the functions' contracts: a field for the claims of each crate that has any, and what is claimed here.
--- Demand 3 is `same-exchange` of `agreement`; demand 2's claims are those of `alu`, `codec` and `core`. The value is in
+-- Demand 3 is `demand-3` of `agreement`; demand 2's claims are those of `alu`, `codec` and `core`. The value is in
 -- proofs/Theorems.antt. Assumes nothing.
 use Rattle.trm_word.specs.Claims.{Claims as WordClaims}
 use Rattle.trm_codec.specs.Claims.{Claims as CodecClaims}

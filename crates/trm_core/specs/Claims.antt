@@ -29,7 +29,8 @@ use Rattle.trm_core.specs.Scenario.{spread, recordDigest, referenceDiges
 use Rattle.trm_core.specs.Scenario.{expectedRecordDigest, expectedReferenceDigest, expectedFinishes, expectedPhases}
 use Rattle.trm_core.specs.Refused.{AllGive, rows}
 
--- The record's arrays hold sixteen registers and all lines: of the record of the code, whose geometry is the paper's, by its type.
+-- The record's arrays hold sixteen registers and all lines. Of the record of the code, whose geometry is the paper's, its type says so:
+-- `of-the-code` of trm_agreement has the claims below without it.
 pub record Shaped (G : Geometry) (m : Machine) : Type 0 where
   pub regs : 16 ≤ length (m .regs)
   pub full : G .lines ≤ length (m .full)
@@ -130,7 +131,7 @@ abbrev pub ClocksAreThree : Type 0
 ClocksAreThree = (G : Geometry) (p : List ℕ) (x : Lent) (pins : Pins) → Clocked G p x pins
 
 -- "What a programmer sees changes only in an instruction's last clock", but for data memory, and for every record: a clock that carries
--- nothing out and takes no interrupt leaves it, and answers nothing. Of memory speak trm_agreement (`quiet`, `same-exchange`) and D-33.
+-- nothing out and takes no interrupt leaves it, and answers nothing. Memory is in demand 3 (`Still` of trm_agreement) and D-33.
 pub record Unseen (G : Geometry) (p : List ℕ) (x : Lent) (pins : Pins) : Type 0 where
   pub visible : visibleOf (clockOf G p x pins .state .machine) ≡ visibleOf (x .machine)
   pub answer : clockOf G p x pins .out ≡ silent 0

@@ -3,8 +3,9 @@
 -- in its block; that access's block is the one its line holds, dirty if stored to since its refill, and a line without such an access
 -- holds none." The latest event comes first. Assumes nothing.
 --   refillsNow G h b   an access to block b refills      dirtyNow G h l   line l is dirty      dirtyLines G h   how many are
+--   refillsIn G h, writebacksIn G h   the refills and write-backs of a whole history, a sum over its events
 use Prim.Native.Nat.{ℕ, zero, suc, _+_}
-use mathlib.Core.Bool.{Bool, false, cond, not, _||_}
+use mathlib.Core.Bool.{Bool, false, cond, not, _&&_, _||_}
 use mathlib.Core.List.{List, [], _∷_}
 use lib.Dec.{eqb}
 use Rattle.trm_reference.specs.Geometry.{Geometry, lineOf}
@@ -54,3 +55,16 @@ howMany (suc k) f = howMany k f + cond (f k) 1 0
 
 unfoldable pub dirtyLines : Geometry → List Event → ℕ
 dirtyLines G h = howMany (G .lines) (dirtyNow G h)
+
+-- "an access refills unless ..": the accesses that refilled, each judged by the events before it
+unfoldable pub refillsIn : Geometry → List Event → ℕ
+refillsIn G [] = 0
+refillsIn G (access t ∷ h) = cond (refillsNow G h (t .block)) 1 0 + refillsIn G h
+refillsIn G (emptying ∷ h) = refillsIn G h
+
+-- "22 if the old block is dirty", "10 for each dirty line": the dirty blocks that these refills and the emptyings wrote back
+unfoldable pub writebacksIn : Geometry → List Event → ℕ
+writebacksIn G [] = 0
+writebacksIn G (access t ∷ h) =
+    cond (refillsNow G h (t .block) && dirtyNow G h (lineOf G (t .block))) 1 0 + writebacksIn G h
+writebacksIn G (emptying ∷ h) = dirtyLines G h + writebacksIn G h

@@ -2,11 +2,12 @@
 -- Idea: by the kind of the word; the dirty lines are at most all lines.
 -- Assumes nothing.
 use Prim.Native.Nat.{ℕ, _≤_, _<_}
+use mathlib.Core.Path.{refl}
 use mathlib.Core.Bool.{Bool, true, false}
 use lib.ListN.{length}
 use native.Mathlib.Omega.{arith}
 use native.Mathlib.Nat.{mul-le-mul-left}
-use Rattle.trm_reference.specs.Geometry.{Geometry, burst}
+use Rattle.trm_reference.specs.Geometry.{Geometry, burst, oneOf, geometryOk}
 use Rattle.trm_reference.specs.Visible.{Visible}
 use Rattle.trm_reference.specs.Access.{isStore}
 use Rattle.trm_reference.specs.History.{dirtyNow, dirtyLines}
@@ -16,7 +17,8 @@ use Rattle.trm_cache.specs.Cache.{Cache}
 use Rattle.trm_core.specs.Clock.{chargeHere}
 use Rattle.trm_core.proofs.Laws.Kind.{Kind, quick, second, longer, device, cached, uncached, clearing, kindOf, kind-is, chargeOfKind}
 use Rattle.trm_cache.proofs.Laws.Dirty.{howMany-le}
-use Rattle.trm_agreement.specs.Ledger.{longest}
+use Rattle.trm_agreement.specs.Book.{longest}
+use Rattle.trm_agreement.specs.Claims.{Bounded}
 
 module _ (G : Geometry) where
   kind-pos : (k : Kind) (store misses evicts : Bool) (dirty : ℕ) → 0 < chargeOfKind G k store misses evicts dirty
@@ -66,3 +68,7 @@ module _ (G : Geometry) where
       (kind-is w (q .visible) (length (q .memory)) .charge G (misses G w q) (evicts G w q) (dirtyLines G (q .history)))
       (kind-bounded (kindOf w (q .visible) (length (q .memory))) (isStore w) (misses G w q) (evicts G w q) (dirtyLines G (q .history))
       (unfold dirtyLines in howMany-le (G .lines) (dirtyNow G (q .history))))
+
+pub bounded : Bounded
+unfolding geometryOk oneOf
+bounded = record { fits = refl; positive = charge-pos; charges = charge-bounded }

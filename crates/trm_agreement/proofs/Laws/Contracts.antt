@@ -1,24 +1,132 @@
--- What the calls' own `ensures` say, at the lists that the lent slices hold.
--- Idea: the `ensures` is the promise of trm_calls at the references; the lists they hold are put in their place.
+-- What the calls' own `ensures` say, at the lists that the lent slices hold; one form for every function that makes a call.
+-- Idea: the `ensures` is a promise of trm or trm_calls at the references; the lists they hold are put in their place.
 -- Assumes nothing.
---   reset-says    clock-says    run-says
+--   reset-gives    the record that an accepted reset returns        facts    what a call handed back, by whichever function
 use Prim.Native.Nat.{ℕ}
-use mathlib.Core.List.{List}
+use mathlib.Core.Path.{_≡_, sym, ap, _∙_}
+use mathlib.Core.Logic.{_≢_}
+use mathlib.Core.List.{List, []}
+use borrow.Author.Tests.{eq-eqb, ne-eqb}
+use Rattle.trm_reference.specs.Geometry.{paperGeometry}
+use Rattle.trm_reference.specs.Access.{Answer}
+use Rattle.trm_reference.specs.Trace.{After}
+use Rattle.trm_core.specs.Record as core
+use Rattle.trm_core.specs.Record.{Lent, resetOf, start}
+use Rattle.trm_core.specs.Refusals.{resetRefusal, clockRefusal, runRefusal}
+use Rattle.trm_core.specs.Run.{Ran}
+use Rattle.trm_refusals.specs.Numbers.{numberOf as refusalNumber}
 use Rattle.trm_engine.specs.declared.machine.Machine.{Machine}
+use Rattle.trm_engine.specs.Machine.{recordOf, lent}
 use Rattle.trm_calls.specs.declared.answer.Reset.{Reset}
 use Rattle.trm_calls.specs.declared.answer.Clock.{Clock}
 use Rattle.trm_calls.specs.declared.answer.Run.{Run}
-use Rattle.trm_calls.specs.Promises.{ResetHolds, ClockHolds, RunHolds}
-use Rattle.trm_agreement.specs.Contracts.{ResetMet, ClockMet, RunMet}
+use Rattle.trm_calls.specs.Promises.{pins, resetGives, clockGives, runGives, ResetHolds, ClockHolds, RunHolds}
+use Rattle.trm.specs.Promises.{ResetNumbered, ClockNumbered, RunNumbered, withRecord}
+use Rattle.trm.specs.declared.answer.ResetAnswer.{ResetAnswer}
+use Rattle.trm.specs.declared.answer.ClockAnswer.{ClockAnswer}
+use Rattle.trm.specs.declared.answer.LentAnswer.{LentAnswer}
+use Rattle.trm.specs.declared.answer.RunAnswer.{RunAnswer}
+use Rattle.trm_agreement.specs.Calls.{Call, clockCall, runCall}
+use Rattle.trm_agreement.specs.Contracts.{ShippedReset, ShippedValue, ShippedLent, ShippedRun, ResetMet, ClockMet, RunMet}
+use Rattle.trm_agreement.specs.Exchange.{Starts, shipped, own, Fails, shippedNot, ownNot, Returned, clockReturned, runReturned}
+use Rattle.trm_agreement.specs.Exchange.{Meets, byValue, byLending, byRun, ownClock, ownRun}
 
-pub reset-says : (s : List ℕ) (r : Reset) → ResetMet s r → ResetHolds s r
+shipped-reset-says : (s : List ℕ) (r : ResetAnswer) → ShippedReset s r → ResetNumbered s r
+shipped-reset-says s r h = rw (← h .holds) (h .ensures)
+
+pub value-says : (m : Machine) (p s : List ℕ) (line input : ℕ) (r : ClockAnswer) (s′ : List ℕ) → ShippedValue m p s line input r s′
+    → ClockNumbered m p s line input r s′
+value-says m p s line input r s′ h = let e = h .holds in rw (← e .0, ← e .1, ← e .2) (h .ensures)
+
+pub lent-says : (m : Machine) (p s : List ℕ) (line input : ℕ) (m′ : Machine) (r : LentAnswer) (s′ : List ℕ)
+    → ShippedLent m p s line input m′ r s′ → ClockNumbered m p s line input (withRecord m′ r) s′
+lent-says m p s line input m′ r s′ h = let e = h .holds in rw (← e .0, ← e .1, ← e .2, ← e .3, ← e .4) (h .ensures)
+
+shipped-run-says : (m : Machine) (p s lines inputs bytes words : List ℕ) (r : RunAnswer) (s′ bytes′ words′ : List ℕ)
+    → ShippedRun m p s lines inputs bytes words r s′ bytes′ words′ → RunNumbered m p s lines inputs bytes words r s′ bytes′ words′
+shipped-run-says m p s lines inputs bytes words r s′ bytes′ words′ h = let e = h .holds in
+    rw (← e .0, ← e .1, ← e .2, ← e .3, ← e .4, ← e .5, ← e .6, ← e .7, ← e .8) (h .ensures)
+
+reset-says : (s : List ℕ) (r : Reset) → ResetMet s r → ResetHolds s r
 reset-says s r h = rw (← h .holds) (h .ensures)
 
-pub clock-says : (m : Machine) (p s : List ℕ) (line input : ℕ) (r : Clock) (s′ : List ℕ) → ClockMet m p s line input r s′
+clock-says : (m : Machine) (p s : List ℕ) (line input : ℕ) (r : Clock) (s′ : List ℕ) → ClockMet m p s line input r s′
     → ClockHolds m p s line input r s′
 clock-says m p s line input r s′ h = let e = h .holds in rw (← e .0, ← e .1, ← e .2) (h .ensures)
 
-pub run-says : (m : Machine) (p s lines inputs bytes words : List ℕ) (r : Run) (s′ bytes′ words′ : List ℕ)
+run-says : (m : Machine) (p s lines inputs bytes words : List ℕ) (r : Run) (s′ bytes′ words′ : List ℕ)
     → RunMet m p s lines inputs bytes words r s′ bytes′ words′ → RunHolds m p s lines inputs bytes words r s′ bytes′ words′
 run-says m p s lines inputs bytes words r s′ bytes′ words′ h = let e = h .holds in
     rw (← e .0, ← e .1, ← e .2, ← e .3, ← e .4, ← e .5, ← e .6, ← e .7, ← e .8) (h .ensures)
+
+-- what a reset returned, refused or not
+pub record ResetFacts (s : List ℕ) (code : ℕ) (m : Machine) : Type 0 where
+  pub number : code ≡ resetRefusal s
+  pub machine : recordOf m ≡ resetGives s
+
+pub shipped-facts : (s : List ℕ) (r : ResetAnswer) → ShippedReset s r → ResetFacts s (r .number) (r .machine)
+shipped-facts s r h = let g = shipped-reset-says s r h in record { number = g .number; machine = g .machine }
+
+pub own-facts : (s : List ℕ) (r : Reset) → ResetMet s r → ResetFacts s (refusalNumber (r .refused)) (r .machine)
+own-facts s r h = let g = reset-says s r h in record { number = g .number; machine = g .machine }
+
+-- an accepted one
+pub record Started (s : List ℕ) (m : Machine) : Type 0 where
+  pub taken : resetRefusal s ≡ 0
+  pub is : lent m s ≡ start paperGeometry s
+
+started-by : (s : List ℕ) (n : ℕ) (m : Machine) → ResetFacts s n m → n ≡ 0 → Started s m
+unfolding resetGives
+started-by s n m h z = record {
+  taken = taken;
+  is = ap (λ (k : core.Machine). record { machine = k; store = s }) (h .machine ∙ rw (eq-eqb (resetRefusal s) 0 taken));
+}
+  where
+    taken : resetRefusal s ≡ 0
+    taken = sym (h .number) ∙ z
+
+failed-by : (s : List ℕ) (n : ℕ) (m : Machine) → ResetFacts s n m → n ≢ 0 → recordOf m ≡ resetOf paperGeometry []
+unfolding resetGives
+failed-by s n m h z = h .machine ∙ rw (ne-eqb (resetRefusal s) 0 (λ y. z (h .number ∙ y)))
+
+-- a refused one: the record has no store that fits
+pub fails : (s : List ℕ) (m : Machine) → Fails s m → recordOf m ≡ resetOf paperGeometry []
+fails s m (shippedNot r h n) = failed-by s (r .number) (r .machine) (shipped-facts s r h) n
+fails s m (ownNot r h n) = failed-by s (refusalNumber (r .refused)) (r .machine) (own-facts s r h) n
+
+pub starts : (s : List ℕ) (m : Machine) → Starts s m → Started s m
+starts s m (shipped r h z) = started-by s (r .number) (r .machine) (shipped-facts s r h) z
+starts s m (own r h z) = started-by s (refusalNumber (r .refused)) (r .machine) (own-facts s r h) z
+
+module _ (p : List ℕ) (m : Machine) (s : List ℕ) where
+  pub record ClockFacts (line input code : ℕ) (left : Machine) (store : List ℕ) (out : Answer) : Type 0 where
+    pub number : code ≡ clockRefusal paperGeometry p (recordOf m) s line
+    pub outcome : _≡_ {A = After Lent Answer} (record { state = lent left store; out = out }) (clockGives p (lent m s) (pins line input))
+
+  pub record RunFacts (lines inputs bytes words : List ℕ) (code : ℕ) (left : Machine) (store : List ℕ) (used finished : ℕ)
+      (bytes′ words′ : List ℕ) : Type 0 where
+    pub number : code ≡ runRefusal paperGeometry p (recordOf m) s lines inputs bytes words
+    pub outcome : _≡_ {A = Ran}
+        (record { state = lent left store; used = used; finished = finished; bytes = bytes′; words = words′ })
+        (runGives p (lent m s) lines inputs bytes words)
+
+  unfoldable pub Facts : Call → Returned → Type 0
+  Facts (clockCall line input) (clockReturned number left store out) = ClockFacts line input number left store out
+  Facts (clockCall line input) (runReturned number left store used finished bytes′ words′) = ⊥
+  Facts (runCall lines inputs bytes words) (clockReturned number left store out) = ⊥
+  Facts (runCall lines inputs bytes words) (runReturned number left store used finished bytes′ words′) =
+      RunFacts lines inputs bytes words number left store used finished bytes′ words′
+
+  -- the one place where the contracts are read
+  pub facts : (c : Call) (a : Returned) → Meets p m s c a → Facts c a
+  unfolding Facts
+  facts c a (byValue line input r s′ h) =
+      let g = value-says m p s line input r s′ h in record { number = g .number; outcome = g .outcome }
+  facts c a (byLending line input m′ r s′ h) =
+      let g = lent-says m p s line input m′ r s′ h in record { number = g .number; outcome = g .outcome }
+  facts c a (byRun lines inputs bytes words r s′ bytes′ words′ h) =
+      let g = shipped-run-says m p s lines inputs bytes words r s′ bytes′ words′ h in record { number = g .number; outcome = g .outcome }
+  facts c a (ownClock line input r s′ h) =
+      let g = clock-says m p s line input r s′ h in record { number = g .number; outcome = g .outcome }
+  facts c a (ownRun lines inputs bytes words r s′ bytes′ words′ h) =
+      let g = run-says m p s lines inputs bytes words r s′ bytes′ words′ h in record { number = g .number; outcome = g .outcome }

@@ -1,207 +1,137 @@
--- Demand 3: from an accepted reset the two machines are in step, so every list of calls gives one log.
--- Idea: the relation with room for the clocks of a call that row 8 lets through; it holds after a reset, and every clock keeps it.
+-- Demand 3 in one piece: the value of `Demand3`; the same of the definitions, for every geometry.
+-- Idea: the log of what was handed back is that of the reference machine, which keeps the book; a refused call by its contract.
 -- Assumes nothing.
-use Prim.Native.Nat.{ℕ, suc, _+_, _-_, _*_, _≤_, _<_}
-use mathlib.Core.Path.{_≡_, refl, sym, _∙_}
-use mathlib.Core.Bool.{Bool, true, false, cond, not, _||_}
+use Prim.Native.Nat.{ℕ}
+use mathlib.Core.Path.{_≡_, refl, sym, ap, ap₂, _∙_}
+use mathlib.Core.Logic.{_≢_}
+use mathlib.Core.Bool.{Bool, true, false, cond, not, _&&_}
 use mathlib.Core.List.{List, []}
-use lib.ListN.{length, getD, drop, replicate, getD-replicate, length-drop, length-replicate}
-use lib.Seq.{length-take-le}
-use lib.Dec.{eqb, ltb}
-use borrow.Author.Tests.{eqb-true, eq-eqb, ltb-false}
+use lib.ListN.{length}
+use lib.Dec.{eqb}
+use borrow.Author.Tests.{eqb-true}
 use native.Mathlib.Omega.{arith}
-use native.Mathlib.Nat.{mul-le-mul-right, suc-mul}
-use Rattle.trm_laws.proofs.Tests.{bool-clash, chosen}
 use Rattle.trm_word.specs.Address.{storeLengthOk}
-use Rattle.trm_reference.specs.Geometry.{Geometry, blockOf, lineOf, geometryOk}
-use Rattle.trm_reference.specs.Visible.{wordAt, resetVisible}
+use Rattle.trm_reference.specs.Geometry.{paperGeometry, burst}
 use Rattle.trm_reference.specs.Access.{Answer}
-use Rattle.trm_reference.specs.Interrupt.{stalled, interruptChosen}
-use Rattle.trm_reference.specs.History.{since}
-use Rattle.trm_reference.specs.Trace.{Pins, After, pinsOf}
-use Rattle.trm_reference.specs.Reference.{Reference, charge, carryOut, spend, takeOff, referenceHeld, referenceInterrupt, referenceUnheld}
-use Rattle.trm_reference.specs.Reference.{referenceClock, referenceReset}
-use Rattle.trm_reference.proofs.Laws.Trace.{pins-length}
-use Rattle.trm_cache.specs.Cache.{Cache, cache, stride, lineAt, view}
-use Rattle.trm_core.specs.Record.{Lent, cacheOf, resetOf}
-use Rattle.trm_core.specs.Clock.{clockOf}
-use Rattle.trm_core.specs.Refusals.{allAtMost, programOk, storeOk, recordRows, countRow, clockRows, linesRefused, runRows, resetRefusal}
-use Rattle.trm_core.specs.Refusals.{clockRefusal, runRefusal}
-use Rattle.trm_core.specs.Rule.{recordOk}
-use Rattle.trm_core.proofs.Laws.Fit.{Fit, fit, any-line-in}
-use Rattle.trm_core.proofs.Laws.Reset.{zeros, first, first-line, first-words, first-wide, reset-legal}
-use Rattle.trm_cache.proofs.Laws.Cache.{Sane, empty-view}
-use Rattle.trm_cache.proofs.Laws.Dirty.{copy-is}
+use Rattle.trm_reference.specs.Trace.{After}
+use Rattle.trm_core.specs.Record.{Lent, resetOf, start}
+use Rattle.trm_core.specs.Refusals.{programOk, storeOk, recordRows, clockRefusal, runRefusal}
+use Rattle.trm_engine.specs.declared.machine.Machine.{Machine}
+use Rattle.trm_engine.specs.Machine.{recordOf}
+use Rattle.trm.specs.Promises.{ClockNumbered, withRecord, clocked}
+use Rattle.trm.specs.declared.answer.ClockAnswer.{ClockAnswer}
+use Rattle.trm.specs.declared.answer.LentAnswer.{LentAnswer}
 use Rattle.trm_agreement.specs.Log.{logOf}
-use Rattle.trm_agreement.specs.Calls.{Call, clockCall, runCall, feed, answer, recordSeen, recordCode, recordEngine, referenceSeen}
-use Rattle.trm_agreement.specs.Calls.{ownRows, referenceCode, referenceEngine}
-use Rattle.trm_agreement.proofs.Laws.Simulate.{Together, log-alike}
-use Rattle.trm_agreement.proofs.Laws.History.{judged-none}
-use Rattle.trm_agreement.proofs.Laws.Relation.{Extra, plainOf, Common, ready, Related, Agree}
-use Rattle.trm_agreement.proofs.Laws.Clock.{clock-step}
-use Rattle.trm_agreement.proofs.Laws.Accepted.{accepted}
+use Rattle.trm_agreement.specs.Calls.{Call, clockCall, runCall, feed, answer, recordEngine}
+use Rattle.trm_agreement.specs.Contracts.{ShippedValue, ShippedLent}
+use Rattle.trm_agreement.specs.Exchange.{Fails, Returned, clockReturned, runReturned, codeReturned, asGiven, Meets}
+use Rattle.trm_agreement.specs.Book.{longest}
+use Rattle.trm_agreement.specs.Demand.{withoutRecord, Demand3}
+use Rattle.trm_agreement.specs.Claims.{EveryGeometry}
+use Rattle.trm_agreement.proofs.Laws.Log.{calls-last}
+use Rattle.trm_agreement.proofs.Laws.SameLog.{same-log}
+use Rattle.trm_agreement.proofs.Laws.Audit.{of-log}
+use Rattle.trm_agreement.proofs.Laws.Runs.{prefix-accepted}
+use Rattle.trm_agreement.proofs.Laws.Contracts.{value-says, lent-says, fails, Facts, facts}
+use Rattle.trm_agreement.proofs.Laws.Witness.{back, holding, exchange-exists}
+use Rattle.trm_agreement.proofs.Laws.Exchange.{exchange-holds, refused-keeps, run-prefix}
 
--- each clock of the reference machine adds one
-pub clock-next : (G : Geometry) (p : List ℕ) (q : Reference) (pins : Pins) → referenceClock G p q pins .state .clocks ≡ q .clocks + 1
-unfolding referenceClock referenceHeld referenceUnheld referenceInterrupt takeOff carryOut spend
-clock-next G p q pins = chosen Next (stalled (pins .line)) refl
-    (chosen Next (eqb (q .left) 0) (chosen Next (eqb (interruptChosen (q .visible .status) (pins .line)) 0) (off (charge G w q)) refl)
-    (off (q .left)))
+pub every-geometry : EveryGeometry
+unfolding logOf recordEngine
+every-geometry G p s cs ok taken = of-log G ok p s cs _ _ _ (same-log G p s cs ok taken)
+    (calls-last feed answer (recordEngine G p) (start G s) cs)
+
+-- a test that fails, second
+fails-second : (t : Bool) → t && false ≡ false
+fails-second true = refl
+fails-second false = refl
+
+-- a record with no store that fits: row 3, or else row 4
+no-store : (m : Machine) (s : List ℕ) → recordOf m ≡ resetOf paperGeometry [] → storeOk (recordOf m) s ≡ false
+unfolding storeOk resetOf
+no-store m s e = rw e (go (eqb (length s) 0) refl)
   where
-    w : ℕ
-    w = wordAt p (q .visible .pc)
+    go : (t : Bool) → eqb (length s) 0 ≡ t → storeLengthOk (length s) && t ≡ false
+    go true z = rw (eqb-true (length s) 0 z) (unfold storeLengthOk in refl)
+    go false z = fails-second (storeLengthOk (length s))
 
-    Next : After Reference Answer → Type 0
-    Next u = u .state .clocks ≡ q .clocks + 1
+no-rows : (p : List ℕ) (m : Machine) (s : List ℕ) (rest : ℕ) → recordOf m ≡ resetOf paperGeometry []
+    → recordRows paperGeometry p (recordOf m) s rest ≡ cond (programOk p) 4 3
+unfolding recordRows
+no-rows p m s rest e = rw (no-store m s e) (go (programOk p))
+  where
+    go : (t : Bool) → _≡_ {A = ℕ} (cond (not t) 3 4) (cond t 4 3)
+    go true = refl
+    go false = refl
 
-    off : (n : ℕ) → Next (takeOff G w q n (pins .input))
-    off n = chosen Next (eqb (n - 1) 0) {a = carryOut G w q (pins .input)} {b = spend G w q (n - 1)} refl refl
+no-code : (p : List ℕ) (m : Machine) (s : List ℕ) (c : Call) (a : Returned) → recordOf m ≡ resetOf paperGeometry [] → Facts p m s c a
+    → codeReturned a ≡ cond (programOk p) 4 3
+unfolding Facts codeReturned clockRefusal runRefusal
+no-code p m s (clockCall line input) (clockReturned number left store out) e h = h .number ∙ no-rows p m s _ e
+no-code p m s (clockCall line input) (runReturned number left store used finished bytes′ words′) e h = absurd h
+no-code p m s (runCall lines inputs bytes words) (clockReturned number left store out) e h = absurd h
+no-code p m s (runCall lines inputs bytes words) (runReturned number left store used finished bytes′ words′) e h =
+    h .number ∙ no-rows p m s _ e
 
-module _ (G : Geometry) (p : List ℕ) where
-  -- in step, with room for n clocks more
-  record Tied (n : ℕ) (x : Lent) (q : Reference) : Type 0 where
-    extra : Extra
-    plain : q ≡ plainOf (x .machine) extra
-    related : Related G p (x .machine) (x .store) extra
-    room : q .clocks + n ≤ 4294967295
+refused-reset : (s₀ : List ℕ) (m : Machine) → Fails s₀ m → (p s : List ℕ) (c : Call) (a : Returned) → Meets p m s c a
+    → a ≡ asGiven m s c (cond (programOk p) 4 3)
+refused-reset s₀ m f p s c a h =
+    refused-keeps p m s c a h (λ z. not-zero (programOk p) (sym code ∙ z)) ∙ ap (asGiven m s c) code
+  where
+    code : codeReturned a ≡ cond (programOk p) 4 3
+    code = no-code p m s c a (fails s₀ m f) (facts p m s c a h)
 
-  tied-step : (n : ℕ) (x : Lent) (q : Reference) (pins : Pins) → Tied (suc n) x q
-      → Together (Tied n) (clockOf G p x pins) (referenceClock G p q pins)
-  tied-step n x q pins t = rw (t .plain) (go (clock-step G p (x .machine) (x .store) (t .extra) pins (t .related)))
-    where
-      rm : x .machine .scalars .counts .clocks + suc n ≤ 4294967295
-      rm = rw (t .plain) at (t .room)
+    not-zero : (t : Bool) → _≢_ {A = ℕ} (cond t 4 3) 0
+    not-zero true z = absurd (omega arith)
+    not-zero false z = absurd (omega arith)
 
-      go : Agree G p (clockOf G p x pins) (referenceClock G p (plainOf (x .machine) (t .extra)) pins)
-          → Together (Tied n) (clockOf G p x pins) (referenceClock G p (plainOf (x .machine) (t .extra)) pins)
-      go a = record {
-        state = record {
-          extra = a .extra;
-          plain = a .plain;
-          related = a .related;
-          room = rw (clock-next G p (plainOf (x .machine) (t .extra)) pins) (omega (arith, rm));
-        };
-        out = a .out;
-      }
+same-outcome : (m : Machine) (p s : List ℕ) (line input : ℕ) (r : ClockAnswer) (s₁ : List ℕ) (m₂ : Machine) (r₂ : LentAnswer)
+    (s₂ : List ℕ) → ShippedValue m p s line input r s₁ → ShippedLent m p s line input m₂ r₂ s₂ → (r ≡ withRecord m₂ r₂) × (s₁ ≡ s₂)
+unfolding back
+same-outcome m p s line input r s₁ m₂ r₂ s₂ h g = (
+  ap₂ (λ (n : ℕ) (u : After Lent Answer). record {
+    machine = back (u .state .machine);
+    number = n;
+    byte = u .out .byte;
+    word = u .out .word;
+    finished = u .out .done;
+  }) (x .number ∙ sym (y .number)) both,
+  ap (λ (u : After Lent Answer). u .state .store) both,
+)
+  where
+    x : ClockNumbered m p s line input r s₁
+    x = value-says m p s line input r s₁ h
 
-  tied-seen : (n : ℕ) (x : Lent) (q : Reference) → Tied n x q → recordSeen G p x ≡ referenceSeen G p q
-  unfolding recordSeen referenceSeen
-  tied-seen n x q t = rw (
-    t .plain,
-    copy-is G (cacheOf (x .machine)) (x .store) (t .extra .memory) (c .size ∙ sym (c .memory))
-        (λ a h. c .view a (rw (c .size) at h)),
-  )
-    where
-      c : Common G (x .machine) (x .store) (t .extra)
-      c = t .related .common
+    y : ClockNumbered m p s line input (withRecord m₂ r₂) s₂
+    y = lent-says m p s line input m₂ r₂ s₂ g
 
-  -- rows 4 and 5 let a record in step through
-  rows-are : (x : Lent) (q : Reference) (rest : ℕ) → Tied 0 x q
-      → recordRows G p (x .machine) (x .store) rest ≡ cond (not (programOk p)) 3 rest
-  unfolding recordRows storeOk
-  rows-are x q rest t = rw (c .size, c .legal, eq-eqb (x .machine .scalars .size) (x .machine .scalars .size) refl, fifth)
-    where
-      c : Common G (x .machine) (x .store) (t .extra)
-      c = t .related .common
+    both : clocked r s₁ ≡ clocked (withRecord m₂ r₂) s₂
+    both = x .outcome ∙ sym (y .outcome)
 
-      few : x .machine .scalars .counts .clocks ≤ 4294967295
-      few = let h : x .machine .scalars .counts .clocks + 0 ≤ 4294967295 = rw (t .plain) at (t .room) in omega arith
+lent-too : (m : Machine) (p s : List ℕ) (line input : ℕ) (r : ClockAnswer) (s′ : List ℕ) → ShippedValue m p s line input r s′
+    → ShippedLent m p s line input (r .machine) (withoutRecord r) s′
+unfolding holding
+lent-too m p s line input r s′ h = let g = value-says m p s line input r s′ h in record {
+  lifetimes = ([], ([], ([], tt)));
+  machine = holding m;
+  machine′ = holding (r .machine);
+  program = holding p;
+  store = holding s;
+  store′ = holding s′;
+  holds = (refl, refl, refl, refl, refl);
+  ensures = record { number = g .number; outcome = g .outcome };
+}
 
-      fifth : recordOk G p (x .machine .scalars .size) (x .machine) ≡ true
-      fifth = accepted G p (x .machine) (x .store) (t .extra) (omega (arith, few)) (t .related)
-
-  tied-code : (x : Lent) (q : Reference) (c : Call) → Tied 0 x q → recordCode G p x c ≡ referenceCode G p q c
-  unfolding recordCode referenceCode ownRows clockRefusal runRefusal
-  tied-code x q (clockCall line input) t = rw (t .plain) (rows-are x q (clockRows (x .machine .scalars .counts .clocks) line) t)
-  tied-code x q (runCall lines inputs bytes words) t =
-      rw (t .plain) (rows-are x q (runRows (x .machine .scalars .counts .clocks) lines inputs bytes words) t)
-
-  -- row 8 leaves room for the clocks of a call that it lets through
-  count-room : (k n : ℕ) → countRow k n ≡ 0 → k + n ≤ 4294967295
-  unfolding countRow
-  count-room k n = go (ltb 4294967295 (k + n)) refl
-    where
-      go : (t : Bool) → ltb 4294967295 (k + n) ≡ t → _≡_ {A = ℕ} (cond t 8 0) 0 → k + n ≤ 4294967295
-      go true z y = absurd (omega arith)
-      go false z y = ltb-false 4294967295 (k + n) z
-
-  own-room : (k : ℕ) (c : Call) → ownRows G p k c ≡ 0 → k + length (feed c) ≤ 4294967295
-  unfolding ownRows clockRows runRows linesRefused feed
-  own-room k (clockCall line input) = go (ltb 7 line)
-    where
-      go : (t : Bool) → cond t 6 (countRow k 1) ≡ 0 → k + 1 ≤ 4294967295
-      go true y = absurd (omega arith)
-      go false y = count-room k 1 y
-  own-room k (runCall lines inputs bytes words) =
-      go (eqb (length lines) (length inputs)) refl (ltb 65536 (length lines)) (not (allAtMost 7 lines))
-      (not (eqb (length bytes) (length lines)) || not (eqb (length words) (length lines)))
-    where
-      go : (same : Bool) → eqb (length lines) (length inputs) ≡ same → (long bad other : Bool)
-          → cond (not same || long || bad) 6 (cond other 7 (countRow k (length lines))) ≡ 0
-          → k + length (pinsOf lines inputs) ≤ 4294967295
-      go true e false false false y = rw (pins-length lines inputs (eqb-true (length lines) (length inputs) e))
-          (count-room k (length lines) y)
-      go true e false false true y = absurd (omega arith)
-      go true e false true other y = absurd (omega arith)
-      go true e true bad other y = absurd (omega arith)
-      go false e long bad other y = absurd (omega arith)
-
-  tied-room : (x : Lent) (q : Reference) (c : Call) → Tied 0 x q → referenceCode G p q c ≡ 0 → Tied (length (feed c)) x q
-  unfolding referenceCode
-  tied-room x q c t e = record { extra = t .extra; plain = t .plain; related = t .related; room = go (programOk p) e }
-    where
-      go : (b : Bool) → cond (not b) 3 (ownRows G p (q .clocks) c) ≡ 0 → q .clocks + length (feed c) ≤ 4294967295
-      go true y = own-room (q .clocks) c y
-      go false y = absurd (omega arith)
-
-module _ (G : Geometry) (p s : List ℕ) where
-  tied-reset : Fit G (length s) → storeLengthOk (length s) ≡ true
-      → Tied G p 0 (record { machine = resetOf G s; store = s }) (referenceReset s)
-  unfolding resetOf referenceReset resetVisible first zeros
-  tied-reset g legal = record {
-    extra = record { memory = s; history = []; left = 0 };
-    plain = refl;
-    room = omega arith;
-    related = record {
-      common = record {
-        size = refl;
-        memory = refl;
-        view = through;
-        sane = sane;
-        off = λ q l h. first-line G l h .0;
-        fit = g;
-        legal = legal;
-        narrow = record { pc = omega arith; n = omega arith; z = omega arith; c = omega arith; v = omega arith; status = omega arith };
-        counted = record { held = omega arith; refills = omega arith; writebacks = omega arith };
-      };
-      flight = ready refl refl (λ l h. unfold since in judged-none (lineAt G (first G) l) (first-line G l h .0) (first-line G l h .1));
-    };
-  }
-    where
-      sane : Sane G (first G) s
-      sane = record {
-        wide = first-wide G;
-        each = λ l h. record {
-          wide = first-words G l h;
-          home = λ q. bool-clash (lineAt G (first G) l .full) q (first-line G l h .0);
-          inside = λ q. bool-clash (lineAt G (first G) l .full) q (first-line G l h .0);
-          emptyClean = λ q. first-line G l h .1;
-          emptyZero = λ q. first-line G l h .2;
-          agrees = λ q d i hi. bool-clash (lineAt G (first G) l .full) q (first-line G l h .0);
-        };
-      }
-
-      through : (a : ℕ) → a < length s → view G (first G) s a ≡ getD s a 0
-      through a h = unfold view in (empty-view G (g .wpos) s (lineAt G (first G) (lineOf G (blockOf G a))) a
-          (first-line G (lineOf G (blockOf G a)) (any-line-in G (g .lpos) (blockOf G a)) .0))
-
-  reset-tied : geometryOk G ≡ true → resetRefusal s ≡ 0 → Tied G p 0 (record { machine = resetOf G s; store = s }) (referenceReset s)
-  reset-tied e r = tied-reset (fit G (length s) e (reset-legal s r)) (reset-legal s r)
-
-  pub same-log : (cs : List Call) → geometryOk G ≡ true → resetRefusal s ≡ 0
-      → logOf feed answer (recordEngine G p) (record { machine = resetOf G s; store = s }) cs
-      ≡ logOf feed answer (referenceEngine G p) (referenceReset s) cs
-  unfolding recordEngine referenceEngine
-  same-log cs e r = log-alike feed answer (recordEngine G p) (referenceEngine G p) (Tied G p) (tied-step G p) (tied-seen G p)
-      (tied-code G p)
-      (tied-room G p) (record { machine = resetOf G s; store = s }) (referenceReset s) cs (reset-tied e r)
+pub demand-3 : Demand3
+unfolding longest burst
+demand-3 = record {
+  holds = exchange-holds;
+  longest-161 = refl;
+  refused-reset = refused-reset;
+  refused = refused-keeps;
+  run-prefix = run-prefix;
+  prefix-accepted = prefix-accepted;
+  lent-too = lent-too;
+  same-outcome = same-outcome;
+  exists = exchange-exists;
+}

@@ -21,7 +21,7 @@ use Rattle.trm_core.specs.Rule.{recordOk}
 use Rattle.trm_core.specs.Run.{historyOf, runOf}
 use Rattle.trm_agreement.specs.Log.{clocksOf}
 use Rattle.trm_agreement.specs.Calls.{feed, answer, recordCode, recordEngine}
-use Rattle.trm_agreement.specs.Claims.{RunsAreRuns, PrefixAccepted}
+use Rattle.trm_agreement.specs.Claims.{RunsAreRuns}
 
 -- what each row says of a run that it lets through
 record Let (G : Geometry) (p : List ℕ) (x : Lent) (lines inputs bytes words : List ℕ) : Type 0 where
@@ -96,7 +96,9 @@ low-take (suc k) limit [] e = refl
 low-take (suc k) limit (x ∷ xs) e =
     both (leb x limit) (allAtMost limit xs) (λ a b. a &t low-take k limit xs b) e
 
-pub prefix-accepted : PrefixAccepted
+pub prefix-accepted : (G : Geometry) (p : List ℕ) (x : Lent) (lines inputs bytes words : List ℕ) (k : ℕ) → k ≤ length lines
+    → runRefusal G p (x .machine) (x .store) lines inputs bytes words ≡ 0
+    → runRefusal G p (x .machine) (x .store) (take k lines) (take k inputs) (take k bytes) (take k words) ≡ 0
 prefix-accepted G p x lines inputs bytes words k few r =
     passes G p x (take k lines) (take k inputs) (take k bytes) (take k words) (record {
       program = t .program;

@@ -25,21 +25,25 @@ module _ {S S′ I O W C A : Type 0} (feed : C → List I) (answer : ℕ → C �
   -- two lists of clocks that agree
   record Alike (x : S) (y : S′) (ts : List (After S O)) (us : List (After S′ O)) : Type 0 where
     state : R 0 (endOf x ts) (endOf y us)
-    log : entries feed answer E ts ≡ entries feed answer E′ us
+    log : (is : List I) → entries feed answer E ts is ≡ entries feed answer E′ us is
     outs : outsOf ts ≡ outsOf us
 
   none : (x : S) (y : S′) → R 0 x y → Alike x y [] []
   unfolding endOf outsOf entries
-  none x y r = record { state = r; log = refl; outs = refl }
+  none x y r = record { state = r; log = λ is. refl; outs = refl }
 
   more : (n : ℕ) (x : S) (y : S′) (t : After S O) (u : After S′ O) (ts : List (After S O)) (us : List (After S′ O)) → Together (R n) t u
       → Alike (t .state) (u .state) ts us → Alike x y (t ∷ ts) (u ∷ us)
   unfolding endOf outsOf entries
   more n x y t u ts us g a = record {
     state = a .state;
-    log = ap₂ _∷_ (rw (seen n (t .state) (u .state) (g .state), g .out)) (a .log);
+    log = log;
     outs = ap₂ _∷_ (g .out) (a .outs);
   }
+    where
+      log : (is : List I) → entries feed answer E (t ∷ ts) is ≡ entries feed answer E′ (u ∷ us) is
+      log [] = refl
+      log (i ∷ is) = ap₂ _∷_ (rw (seen n (t .state) (u .state) (g .state), g .out)) (a .log is)
 
   clocks-alike : (x : S) (y : S′) (is : List I) → R (length is) x y → Alike x y (clocks (E .step) x is) (clocks (E′ .step) y is)
   unfolding clocks
@@ -59,7 +63,7 @@ module _ {S S′ I O W C A : Type 0} (feed : C → List I) (answer : ℕ → C �
   calls-alike : (x : S) (y : S′) (cs : List C) → R 0 x y → calls feed answer E x cs ≡ calls feed answer E′ y cs
   unfolding calls
   calls-alike x y [] r = refl
-  calls-alike x y (c ∷ cs) r = ap₂ _++_ (call-alike x y c r .log)
+  calls-alike x y (c ∷ cs) r = ap₂ _++_ (call-alike x y c r .log (feed c))
       (ap₂ _∷_ (ap₂ ended (seen 0 _ _ (call-alike x y c r .state)) (rw (code x y c r, call-alike x y c r .outs)))
       (calls-alike (endOf x (clocksOf feed answer E x c)) (endOf y (clocksOf feed answer E′ y c)) cs (call-alike x y c r .state)))
 

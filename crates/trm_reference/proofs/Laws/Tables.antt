@@ -19,6 +19,7 @@ use Rattle.trm_reference.specs.Execute.{operandA, operandB, calculated, 
 use Rattle.trm_reference.specs.Execute.{branched, called, execute}
 use Rattle.trm_reference.specs.Interrupt.{stalled, lineRaised, interruptChosen, savedWord, interrupted}
 use Rattle.trm_reference.specs.History.{since, lastIn, storedSince, lastDirty, refillsNow, dirtyNow, howMany, dirtyLines}
+use Rattle.trm_reference.specs.History.{refillsIn, writebacksIn}
 use Rattle.trm_reference.specs.Charge.{isJump, takesBranch, throughCache, pastCache, turnsCacheOff, missCharge}
 use Rattle.trm_reference.specs.Charge.{uncachedCharge, chargeBy}
 use Rattle.trm_reference.specs.Trace.{pinsOf, clocks, endOf, outsOf, finishedIn}
@@ -31,7 +32,7 @@ use Rattle.trm_reference.specs.Tables.ClockTable.{clockTable}
 use Rattle.trm_reference.specs.Tables.Executed.{takenUnder, executed}
 use Rattle.trm_reference.specs.Tables.Accesses.{answeredTo, kept, accesses}
 use Rattle.trm_reference.specs.Tables.Interrupts.{reached, interrupts}
-use Rattle.trm_reference.specs.Tables.Histories.{judged, counted, finishedAt, histories}
+use Rattle.trm_reference.specs.Tables.Histories.{judged, summed, counted, finishedAt, histories}
 use Rattle.trm_reference.specs.Tables.Stalls.{stalledRun, answersOf, stalls}
 
 -- each row's two lists are equal, as a test of the whole table
@@ -55,7 +56,7 @@ record Passed : Type 0 where
 passed : Passed
 unfolding test same
     starred clockTable executed accesses interrupts histories stalls ranWith ran stateAfter finishes arithmetic placed changedFrom shown
-    takenUnder answeredTo kept reached restOf judged counted finishedAt stalledRun answersOf
+    takenUnder answeredTo kept reached restOf judged summed counted finishedAt stalledRun answersOf
     signed word product lowWord highWord above0 floorDiv floorMod quotient remainder exactSum exactDifference sum difference ror
     shortResult resultOf highOf negative tooWide carryOfAdd carryOfSub overflowOfAdd overflowOfSub signFlag zeroFlag carryAfter
     overflowAfter flagsAfter flagsOf
@@ -64,7 +65,7 @@ unfolding test same
     targetLine stored loaded deviceAnswer answerOf
     operandA operandB calculated statusSet returned jumped branchTaken branchTarget branched called execute
     stalled lineRaised interruptChosen savedWord interrupted since lastIn storedSince lastDirty refillsNow dirtyNow howMany
-    dirtyLines
+    dirtyLines refillsIn writebacksIn
     isJump takesBranch throughCache pastCache turnsCacheOff missCharge uncachedCharge chargeBy pinsOf clocks endOf outsOf
     finishedIn
     referenceReset misses evicts charge refillOver writebackOver memoryAfter historyAfter carryOut spend takeOff referenceHeld

@@ -1,4 +1,4 @@
--- Histories: which access refills, which lines are dirty, when a ten counts, and what joins the history.
+-- Histories: which access refills, which lines are dirty, the sums over a history, when a ten counts, and what joins the history.
 -- Paper: "Judged from history, ..", "A miss is one looking clock, ..", "counts when its ten is over", "joins the history".
 -- The latest access stands first; blocks 0 and 16 are of line 0, 1 and 17 of line 1, 31 of line 15. Assumes nothing.
 use Prim.Native.Nat.{ℕ, _+_}
@@ -6,7 +6,7 @@ use mathlib.Core.List.{List, [], _∷_, _++_}
 use lib.ListN.{length, replicate}
 use Rattle.trm_alu.specs.Word.{flag}
 use Rattle.trm_reference.specs.Geometry.{paperGeometry, lineOf}
-use Rattle.trm_reference.specs.History.{Event, emptying, refillsNow, dirtyNow, dirtyLines}
+use Rattle.trm_reference.specs.History.{Event, emptying, refillsNow, dirtyNow, dirtyLines, refillsIn, writebacksIn}
 use Rattle.trm_reference.specs.Reference.{Reference, referenceReset}
 use Rattle.trm_reference.specs.Tables.{Row, row, statusWord, loadWord, storeWord, ran, stateAfter, quiet, finishes, loadOf}
 use Rattle.trm_reference.specs.Tables.{storeOf, cacheOff, cacheWith}
@@ -18,6 +18,10 @@ judged h b =
     ∷ flag (dirtyNow paperGeometry h (lineOf paperGeometry b))
     ∷ dirtyLines paperGeometry h
     ∷ []
+
+-- the refills and write-backs of a history
+unfoldable pub summed : List Event → List ℕ
+summed h = refillsIn paperGeometry h ∷ writebacksIn paperGeometry h ∷ []
 
 -- refills and write-backs after n clocks
 unfoldable pub counted : List ℕ → Reference → ℕ → List ℕ
@@ -83,6 +87,15 @@ histories =
     ∷ row (judged (loadOf 8 ∷ storeOf 0 ∷ []) 0) (0 ∷ 1 ∷ 1 ∷ [])
     ∷ row (judged (storeOf 17 ∷ loadOf 0 ∷ storeOf 31 ∷ storeOf 0 ∷ []) 0) (0 ∷ 1 ∷ 3 ∷ [])
     ∷ row (judged (storeOf 17 ∷ loadOf 0 ∷ storeOf 31 ∷ storeOf 0 ∷ []) 1) (1 ∷ 1 ∷ 3 ∷ [])
+    -- the sums over a history: nothing; a refill, and a hit after it; a clean block and a dirty one driven out
+    ∷ row (summed []) (0 ∷ 0 ∷ [])
+    ∷ row (summed (loadOf 0 ∷ storeOf 0 ∷ [])) (1 ∷ 0 ∷ [])
+    ∷ row (summed (storeOf 16 ∷ loadOf 0 ∷ [])) (2 ∷ 0 ∷ [])
+    ∷ row (summed (loadOf 0 ∷ loadOf 16 ∷ storeOf 0 ∷ [])) (3 ∷ 1 ∷ [])
+    -- an emptying writes back each dirty line, and no refill; after it the same block refills again
+    ∷ row (summed (emptying ∷ storeOf 1 ∷ storeOf 0 ∷ [])) (2 ∷ 2 ∷ [])
+    ∷ row (summed (emptying ∷ emptying ∷ storeOf 1 ∷ loadOf 0 ∷ [])) (2 ∷ 1 ∷ [])
+    ∷ row (summed (storeOf 0 ∷ emptying ∷ storeOf 0 ∷ [])) (2 ∷ 1 ∷ [])
     -- "A miss is one looking clock, ten writing back if dirty, ten refilling, one last"; "counts when its ten is over": a clean miss
     ∷ row (counted loads128 (cacheWith []) 10) (0 ∷ 0 ∷ [])
     ∷ row (counted loads128 (cacheWith []) 11) (1 ∷ 0 ∷ [])

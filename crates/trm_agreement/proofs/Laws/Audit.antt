@@ -1,0 +1,167 @@
+-- The log of the reference machine is in order: every entry is audited, the book is balanced after it, and the devices are as it says.
+-- Idea: one clock keeps the book; then the list of clocks, and the list of calls; of an audited log the rest follows.
+-- Assumes nothing.
+--   clocks-hold   the plain machine over any clocks        of-log   any log that is the reference machine's
+use Prim.Native.Nat.{ℕ, _<_}
+use mathlib.Core.Path.{_≡_, refl, sym, ap, ap₂, _∙_, subst}
+use mathlib.Core.Bool.{Bool, true, false, cond, not, _&&_}
+use mathlib.Core.List.{List, [], _∷_, _++_, append-nil}
+use lib.ListN.{take, drop}
+use lib.Dec.{eqb}
+use Rattle.trm_word.specs.Address.{storeLengthOk}
+use Rattle.trm_reference.specs.Geometry.{Geometry, geometryOk, burst}
+use Rattle.trm_reference.specs.Access.{Answer, answerOf}
+use Rattle.trm_reference.specs.Trace.{Pins, After, clocks, endOf, outsOf}
+use Rattle.trm_reference.specs.Reference.{Reference, referenceClock, referenceReset}
+use Rattle.trm_core.proofs.Laws.Fit.{fit}
+use Rattle.trm_agreement.specs.Log.{started, clocked, ended, clocksOf, entries, calls, logOf, answersIn, lastSeen}
+use Rattle.trm_agreement.specs.Calls.{Call, feed, answer, Seen, Line, referenceSeen, referenceCode, referenceEngine}
+use Rattle.trm_agreement.specs.Book.{Did, waited, acknowledged, worked, finished, isFinish, Book, opened, wordOf, sizeOf}
+use Rattle.trm_agreement.specs.Book.{accessing, went, turned, closed}
+use Rattle.trm_agreement.specs.Audit.{Balanced, Does, Audited, bookAt, accessesIn, deviceAnswers}
+use Rattle.trm_agreement.specs.Demand.{Holds}
+use Rattle.trm_agreement.specs.Claims.{PlainMachine}
+use Rattle.trm_agreement.proofs.Laws.Log.{entries-answers, calls-last}
+use Rattle.trm_agreement.proofs.Laws.Numbers.{returns-not-five}
+use Rattle.trm_agreement.proofs.Laws.Devices.{byte-shows}
+use Rattle.trm_agreement.proofs.Laws.Book.{seenOf, bookOf, Kept, balanced, Step, clock-step, reset-kept}
+
+module _ (G : Geometry) (p : List ℕ) where
+  -- a call that ends with what its last clock left
+  closes : (b : Book) (w : Seen) → w ≡ b .seen → Balanced G p b → Balanced G p (closed b w)
+  unfolding closed
+  closes b w e h = rw e h
+
+  -- every part that begins an audited log leaves the book balanced
+  prefixes : (b : Book) (es rest : List Line) → Balanced G p b → Audited G p b (es ++ rest) → Balanced G p (bookAt G p b es)
+  unfolding Audited bookAt
+  prefixes b [] rest h a = h
+  prefixes b (started w ∷ es) rest h a = absurd a
+  prefixes b (clocked i w o ∷ es) rest h a = prefixes (turned G p b w (went G p b i o)) es rest (a .1) (a .2)
+  prefixes b (ended w c ∷ es) rest h a = prefixes (closed b w) es rest (closes b w (a .0) h) (a .1)
+
+  -- an audited log shows each device access of its instructions, once each, in their order
+  audited-devices : (b : Book) (es : List Line) → Audited G p b es → deviceAnswers (answersIn es) ≡ accessesIn G p b es
+  unfolding Audited Does isFinish answersIn deviceAnswers accessesIn
+  audited-devices b [] h = refl
+  audited-devices b (started w ∷ es) h = absurd h
+  audited-devices b (ended w a ∷ es) h = audited-devices (closed b w) es (h .1)
+  audited-devices b (clocked i w o ∷ es) h =
+      go (went G p b i o) (h .0) (audited-devices (turned G p b w (went G p b i o)) es (h .2))
+    where
+      rest : Did → List Answer
+      rest d = accessesIn G p (turned G p b w d) es
+
+      go : (d : Did) → Does p b i w o d → deviceAnswers (answersIn es) ≡ rest d
+          → cond (eqb (o .byte) 0) (deviceAnswers (answersIn es)) (o ∷ deviceAnswers (answersIn es))
+          ≡ cond (isFinish d && accessing p b)
+          (answerOf (wordOf p b) (b .seen .visible) (sizeOf b) (i .input) ∷ rest d) (rest d)
+      go waited x e = rw (x .silent) e
+      go acknowledged x e = rw (x .silent) e
+      go worked x e = rw (x .silent) e
+      go (finished c) x e =
+          rw (x .answer, e, byte-shows (wordOf p b) (b .seen .visible) (sizeOf b) (i .input)) (choose (accessing p b))
+        where
+          choose : (t : Bool) → cond (not t) (rest (finished c))
+              (answerOf (wordOf p b) (b .seen .visible) (sizeOf b) (i .input) ∷ rest (finished c))
+              ≡ cond t (answerOf (wordOf p b) (b .seen .visible) (sizeOf b) (i .input) ∷ rest (finished c)) (rest (finished c))
+          choose true = refl
+          choose false = refl
+
+module _ (G : Geometry) (pos : 0 < burst G) (p : List ℕ) where
+  -- the clocks of a call, and the rest of the log after them
+  audited-clocks : (is : List Pins) (es : List Line) (q : Reference) (sp hd ch : ℕ) → Kept G pos p q sp hd ch
+      → ((sp′ hd′ ch′ : ℕ) → Kept G pos p (endOf q (clocks (referenceClock G p) q is)) sp′ hd′ ch′
+      → Audited G p (bookOf (endOf q (clocks (referenceClock G p) q is)) sp′ hd′ ch′) es)
+      → Audited G p (bookOf q sp hd ch)
+      (entries feed answer (referenceEngine G p) (clocks (referenceClock G p) q is) is ++ es)
+  unfolding clocks endOf entries Audited referenceEngine referenceSeen
+  audited-clocks [] es q sp hd ch k rest = rest sp hd ch k
+  audited-clocks (i ∷ is) es q sp hd ch k rest = (
+    subst (λ d. Does p (bookOf q sp hd ch) i (seenOf u) (referenceClock G p q i .out) d) (sym (st .is)) (st .does),
+    subst (Balanced G p) (sym after) (balanced G pos p u (st .sp′) (st .hd′) (st .ch′) (st .kept)),
+    subst (λ b. Audited G p b
+        (entries feed answer (referenceEngine G p) (clocks (referenceClock G p) u is) is ++ es)) (sym after)
+        (audited-clocks is es u (st .sp′) (st .hd′) (st .ch′) (st .kept) rest),
+  )
+    where
+      u : Reference
+      u = referenceClock G p q i .state
+
+      st : Step G pos p q sp hd ch i (referenceClock G p q i)
+      st = clock-step G pos p q sp hd ch i k
+
+      after : turned G p (bookOf q sp hd ch) (seenOf u) (went G p (bookOf q sp hd ch) i (referenceClock G p q i .out))
+          ≡ bookOf u (st .sp′) (st .hd′) (st .ch′)
+      after = ap (turned G p (bookOf q sp hd ch) (seenOf u)) (st .is) ∙ st .next
+
+  audited-calls : (cs : List Call) (q : Reference) (sp hd ch : ℕ) → Kept G pos p q sp hd ch
+      → Audited G p (bookOf q sp hd ch) (calls feed answer (referenceEngine G p) q cs)
+  unfolding calls clocksOf endOf entries Audited referenceEngine referenceSeen closed
+  audited-calls [] q sp hd ch k = tt
+  audited-calls (c ∷ cs) q sp hd ch k =
+      go (λ q′ sp′ hd′ ch′ k′. audited-calls cs q′ sp′ hd′ ch′ k′) (eqb (referenceCode p q c) 0)
+    where
+      done : Bool → List (After Reference Answer)
+      done t = cond t (clocks (referenceClock G p) q (feed c)) []
+
+      go : ((q′ : Reference) (sp′ hd′ ch′ : ℕ) → Kept G pos p q′ sp′ hd′ ch′
+          → Audited G p (bookOf q′ sp′ hd′ ch′) (calls feed answer (referenceEngine G p) q′ cs))
+          → (t : Bool) → Audited G p (bookOf q sp hd ch) (entries feed answer (referenceEngine G p) (done t) (feed c)
+          ++ ended (referenceSeen (endOf q (done t))) (answer (referenceCode p q c) c (outsOf (done t)))
+          ∷ calls feed answer (referenceEngine G p) (endOf q (done t)) cs)
+      go more true = audited-clocks (feed c) _ q sp hd ch k (λ sp′ hd′ ch′ k′.
+          (refl, more (endOf q (clocks (referenceClock G p) q (feed c))) sp′ hd′ ch′ k′))
+      go more false = (refl, more q sp hd ch k)
+
+module _ (G : Geometry) (ok : geometryOk G ≡ true) (p s : List ℕ) where
+  pos : 0 < burst G
+  pos = fit G 64 ok (unfold storeLengthOk in refl) .tpos
+
+  opens-at : opened (referenceSeen (referenceReset s)) ≡ bookOf (referenceReset s) 0 0 0
+  unfolding opened referenceSeen referenceReset
+  opens-at = refl
+
+  log-opens : Balanced G p (opened (referenceSeen (referenceReset s)))
+  log-opens = rw opens-at (balanced G pos p (referenceReset s) 0 0 0 (reset-kept G pos p s))
+
+  log-audited : (cs : List Call) → Audited G p (opened (referenceSeen (referenceReset s)))
+      (calls feed answer (referenceEngine G p) (referenceReset s) cs)
+  log-audited cs = rw opens-at (audited-calls G pos p cs (referenceReset s) 0 0 0 (reset-kept G pos p s))
+
+  clocks-audited : (is : List Pins) → Audited G p (opened (referenceSeen (referenceReset s)))
+      (entries feed answer (referenceEngine G p) (clocks (referenceClock G p) (referenceReset s) is) is)
+  unfolding Audited
+  clocks-audited is = rw opens-at (rw (append-nil _) at (audited-clocks G pos p is [] (referenceReset s) 0 0 0 (reset-kept G pos p s)
+      (λ sp hd ch k. tt)))
+
+  -- a log that is that of the reference machine, and what is seen last in it
+  pub of-log : (cs : List Call) (first : Seen) (es : List Line) (last : Seen)
+      → started first ∷ es ≡ logOf feed answer (referenceEngine G p) (referenceReset s) cs → lastSeen first es ≡ last
+      → Holds G p s cs first es last
+  unfolding logOf lastSeen referenceEngine
+  of-log cs first es last whole end = record {
+    same = whole;
+    balanced = λ ds rest e. prefixes G p (opened first) ds rest (rw starts log-opens) (rw e at audit);
+    audited = audit;
+    devices = audited-devices G p (opened first) es audit;
+    never-five = rw others (returns-not-five G p (referenceReset s) cs);
+    state-alike = sym end ∙ ap₂ lastSeen starts others ∙ calls-last feed answer (referenceEngine G p) (referenceReset s) cs;
+  }
+    where
+      starts : first ≡ referenceSeen (referenceReset s)
+      starts = ap (λ l. lastSeen first (take 1 l)) whole
+
+      others : es ≡ calls feed answer (referenceEngine G p) (referenceReset s) cs
+      others = ap (drop 1) whole
+
+      audit : Audited G p (opened first) es
+      audit = rw (starts, others) (log-audited cs)
+
+pub plain-machine : PlainMachine
+unfolding referenceEngine
+plain-machine G p s is ok = record {
+  audited = clocks-audited G ok p s is;
+  devices = ap deviceAnswers (sym (entries-answers feed answer (referenceEngine G p) (referenceReset s) is))
+      ∙ audited-devices G p _ _ (clocks-audited G ok p s is);
+}

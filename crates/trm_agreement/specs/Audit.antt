@@ -1,0 +1,112 @@
+-- The audit of a log: what holds of every entry, by the book of the entries before it.
+-- Paper: "Each adds a clock; a held one adds a held clock and no more. With no clocks left it takes an interrupt by the rule above, and
+-- is done, or else ..", "a device is read or written only in that clock". Assumes nothing.
+--   Balanced                           the counts that are seen are those of the book
+--   Still, Interrupted, Finished, Does what a clock left and answered, by what it was spent on
+--   Audited                            every entry of a log        bookAt   the book after some entries
+--   deviceAnswers, accessesIn          the answers that show a device; the device accesses of the instructions finished
+use Prim.Native.Nat.{ℕ, suc, _+_, _*_, _≤_}
+use mathlib.Core.Path.{_≡_}
+use mathlib.Core.Logic.{_≢_}
+use mathlib.Core.Bool.{true, false, cond, _&&_}
+use mathlib.Core.List.{List, [], _∷_}
+use lib.ListN.{getD, set}
+use lib.Dec.{eqb}
+use Rattle.trm_word.specs.Fields.{destination}
+use Rattle.trm_reference.specs.Geometry.{Geometry}
+use Rattle.trm_reference.specs.Visible.{register}
+use Rattle.trm_reference.specs.Access.{isLoad, isStore, toMemory, target, placeOfWord, deviceNumber, stored, loaded, Answer, silent}
+use Rattle.trm_reference.specs.Access.{answerOf}
+use Rattle.trm_reference.specs.Execute.{execute}
+use Rattle.trm_reference.specs.Interrupt.{interrupted}
+use Rattle.trm_reference.specs.History.{refillsIn, writebacksIn}
+use Rattle.trm_reference.specs.Trace.{Pins}
+use Rattle.trm_agreement.specs.Log.{started, clocked, ended}
+use Rattle.trm_agreement.specs.Calls.{Seen, Line}
+use Rattle.trm_agreement.specs.Book.{Did, waited, acknowledged, worked, finished, isFinish, Book, wordOf, sizeOf, accessing}
+use Rattle.trm_agreement.specs.Book.{interruptAt, due, refillOver, writebackOver, went, turned, closed, longest}
+
+module _ (G : Geometry) (p : List ℕ) (b : Book) where
+  -- The counts seen: clocks = held + charges of what finished + unheld clocks spent on the one in flight; refills and write-backs are
+  -- those of the history and of the one in flight. In flight fewer clocks than the charge are spent, and no charge is over the longest.
+  pub record Balanced : Type 0 where
+    pub clocks : b .seen .clocks ≡ b .held + b .charges + b .spent
+    pub held : b .seen .held ≡ b .held
+    pub refills : b .seen .refills ≡ refillsIn G (b .history) + refillOver G p b
+    pub writebacks : b .seen .writebacks ≡ writebacksIn G (b .history) + writebackOver G p b
+    pub flight : b .spent ≢ 0 → suc (b .spent) ≤ due G p b
+    pub short : due G p b ≤ longest G
+
+-- A clock that was fed i, after which w is seen, and that answered o.
+module _ (p : List ℕ) (b : Book) where
+  -- held, or of an instruction that goes on: nothing is seen to change but the counts, and no device is reached
+  pub record Still (w : Seen) (o : Answer) : Type 0 where
+    pub visible : w .visible ≡ b .seen .visible
+    pub memory : w .memory ≡ b .seen .memory
+    pub silent : o ≡ silent 0
+
+  -- an interrupt: "bank 1's R7 := NZCV .., PC ..; mode 1; PC 2 or 3"
+  pub record Interrupted (i : Pins) (w : Seen) (o : Answer) : Type 0 where
+    pub visible : w .visible ≡ interrupted (b .seen .visible) (interruptAt b i)
+    pub memory : w .memory ≡ b .seen .memory
+    pub silent : o ≡ silent 0
+
+  -- the last clock of an instruction: it took its charge c, and the word at PC is carried out; a device load's word is this clock's input
+  -- word, and arrives in R.d; a device store's word is R.d; without a device the answer is zero
+  pub record Finished (i : Pins) (w : Seen) (o : Answer) (c : ℕ) : Type 0 where
+    pub took : suc (b .spent) ≡ c
+    pub visible : w .visible ≡ execute (wordOf p b) (b .seen .visible) (loaded (wordOf p b) (b .seen .visible) (sizeOf b) (i .input)
+        (getD (b .seen .memory) (target (wordOf p b) (b .seen .visible) (sizeOf b)) 0))
+    pub memory : w .memory
+        ≡ cond (toMemory (wordOf p b) (b .seen .visible) (sizeOf b) && isStore (wordOf p b))
+        (set (b .seen .memory) (target (wordOf p b) (b .seen .visible) (sizeOf b)) (stored (wordOf p b) (b .seen .visible)))
+        (b .seen .memory)
+    pub answer : o ≡ answerOf (wordOf p b) (b .seen .visible) (sizeOf b) (i .input)
+    pub reads : accessing p b ≡ true → isLoad (wordOf p b) ≡ true
+        → o ≡ record { byte = deviceNumber (placeOfWord (wordOf p b) (b .seen .visible) (sizeOf b)) * 4 + 1; word = i .input; done = 1 }
+    pub arrives : accessing p b ≡ true → isLoad (wordOf p b) ≡ true → register (w .visible) (destination (wordOf p b)) ≡ i .input
+    pub writes : accessing p b ≡ true → isStore (wordOf p b) ≡ true
+        → o ≡ record {
+          byte = deviceNumber (placeOfWord (wordOf p b) (b .seen .visible) (sizeOf b)) * 4 + 2;
+          word = register (b .seen .visible) (destination (wordOf p b));
+          done = 1;
+        }
+    pub none : accessing p b ≡ false → o ≡ silent 1
+
+  unfoldable pub Does : Pins → Seen → Answer → Did → Type 0
+  Does i w o waited = Still w o
+  Does i w o acknowledged = Interrupted i w o
+  Does i w o worked = Still w o
+  Does i w o (finished c) = Finished i w o c
+
+module _ (G : Geometry) (p : List ℕ) where
+  -- Every entry, b being the book of the entries before it: a clock did what it was spent on, and leaves the book balanced; a call ends
+  -- with what its last clock left, a refused one with what it began with.
+  unfoldable pub Audited : Book → List Line → Type 0
+  Audited b [] = Unit {0}
+  Audited b (started w ∷ es) = ⊥
+  Audited b (clocked i w o ∷ es) =
+      Does p b i w o (went G p b i o) × Balanced G p (turned G p b w (went G p b i o)) × Audited (turned G p b w (went G p b i o)) es
+  Audited b (ended w a ∷ es) = (w ≡ b .seen) × Audited (closed b w) es
+
+  -- the book after these entries
+  unfoldable pub bookAt : Book → List Line → Book
+  bookAt b [] = b
+  bookAt b (started w ∷ es) = bookAt b es
+  bookAt b (clocked i w o ∷ es) = bookAt (turned G p b w (went G p b i o)) es
+  bookAt b (ended w a ∷ es) = bookAt (closed b w) es
+
+  -- the device loads and stores of the instructions finished, each once, in their order, each with its last clock's input word
+  unfoldable pub accessesIn : Book → List Line → List Answer
+  accessesIn b [] = []
+  accessesIn b (started w ∷ es) = accessesIn b es
+  accessesIn b (clocked i w o ∷ es) =
+      cond (isFinish (went G p b i o) && accessing p b)
+      (answerOf (wordOf p b) (b .seen .visible) (sizeOf b) (i .input) ∷ accessesIn (turned G p b w (went G p b i o)) es)
+      (accessesIn (turned G p b w (went G p b i o)) es)
+  accessesIn b (ended w a ∷ es) = accessesIn (closed b w) es
+
+-- the answers with a byte other than zero: "bit 0 read, bit 1 write"
+unfoldable pub deviceAnswers : List Answer → List Answer
+deviceAnswers [] = []
+deviceAnswers (a ∷ as′) = cond (eqb (a .byte) 0) (deviceAnswers as′) (a ∷ deviceAnswers as′)
