@@ -38,7 +38,7 @@ module _ (G : Geometry) (p : List ℕ) (b : Book) where
     pub short : due G p b ≤ longest G
 
 -- A clock that was fed i, after which w is seen, and that answered o.
-module _ (p : List ℕ) (b : Book) where
+module _ (b : Book) where
   -- held, or of an instruction that goes on: nothing is seen to change but the counts, and no device is reached
   pub record Still (w : Seen) (o : Answer) : Type 0 where
     pub visible : w .visible ≡ b .seen .visible
@@ -51,6 +51,7 @@ module _ (p : List ℕ) (b : Book) where
     pub memory : w .memory ≡ b .seen .memory
     pub silent : o ≡ silent 0
 
+module _ (p : List ℕ) (b : Book) where
   -- the last clock of an instruction: it took its charge c, and the word at PC is carried out; a device load's word is this clock's input
   -- word, and arrives in R.d; a device store's word is R.d; without a device the answer is zero
   pub record Finished (i : Pins) (w : Seen) (o : Answer) (c : ℕ) : Type 0 where
@@ -74,9 +75,9 @@ module _ (p : List ℕ) (b : Book) where
     pub none : accessing p b ≡ false → o ≡ silent 1
 
   unfoldable pub Does : Pins → Seen → Answer → Did → Type 0
-  Does i w o waited = Still w o
-  Does i w o acknowledged = Interrupted i w o
-  Does i w o worked = Still w o
+  Does i w o waited = Still b w o
+  Does i w o acknowledged = Interrupted b i w o
+  Does i w o worked = Still b w o
   Does i w o (finished c) = Finished i w o c
 
 module _ (G : Geometry) (p : List ℕ) where
