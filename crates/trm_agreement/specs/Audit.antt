@@ -2,6 +2,7 @@
 -- Paper: "Each adds a clock; a held one adds a held clock and no more. With no clocks left it takes an interrupt by the rule above, and
 -- is done, or else ..", "a device is read or written only in that clock". Assumes nothing.
 --   Balanced                           the counts that are seen are those of the book
+--   Answers                            what the answer of a word that is carried out shows
 --   Still, Interrupted, Finished, Does what a clock left and answered, by what it was spent on
 --   Audited                            every entry of a log        bookAt   the book after some entries
 --   deviceAnswers, accessesIn          the answers that show a device; the device accesses of the instructions finished
@@ -14,9 +15,9 @@ use lib.ListN.{getD, set}
 use lib.Dec.{eqb}
 use Rattle.trm_word.specs.Fields.{destination}
 use Rattle.trm_reference.specs.Geometry.{Geometry}
-use Rattle.trm_reference.specs.Visible.{register}
-use Rattle.trm_reference.specs.Access.{isLoad, isStore, toMemory, target, placeOfWord, deviceNumber, stored, loaded, Answer, silent}
-use Rattle.trm_reference.specs.Access.{answerOf}
+use Rattle.trm_reference.specs.Visible.{Visible, register}
+use Rattle.trm_reference.specs.Access.{isLoad, isStore, toMemory, toDevice, target, placeOfWord, deviceNumber, stored, loaded, Answer}
+use Rattle.trm_reference.specs.Access.{silent, answerOf}
 use Rattle.trm_reference.specs.Execute.{execute}
 use Rattle.trm_reference.specs.Interrupt.{interrupted}
 use Rattle.trm_reference.specs.History.{refillsIn, writebacksIn}
@@ -24,7 +25,7 @@ use Rattle.trm_reference.specs.Trace.{Pins}
 use Rattle.trm_agreement.specs.Log.{started, clocked, ended}
 use Rattle.trm_agreement.specs.Calls.{Seen, Line}
 use Rattle.trm_agreement.specs.Book.{Did, waited, acknowledged, worked, finished, isFinish, Book, wordOf, sizeOf, accessing}
-use Rattle.trm_agreement.specs.Book.{interruptAt, due, refillOver, writebackOver, went, turned, closed, longest}
+use Rattle.trm_agreement.specs.Book.{interruptTo, due, refillOver, writebackOver, went, turned, closed, longest}
 
 module _ (G : Geometry) (p : List ℕ) (b : Book) where
   -- The counts seen: clocks = held + charges of what finished + unheld clocks spent on the one in flight; refills and write-backs are
@@ -37,6 +38,14 @@ module _ (G : Geometry) (p : List ℕ) (b : Book) where
     pub flight : b .spent ≢ 0 → suc (b .spent) ≤ due G p b
     pub short : due G p b ≤ longest G
 
+-- The answer o of a word w that is carried out with v seen, n words of memory and the input word i: a device load's word is the input
+-- word, a device store's is R.d; without a device byte and word are zero.
+pub record Answers (w : ℕ) (v : Visible) (n i : ℕ) (o : Answer) : Type 0 where
+  pub reads : toDevice w v n ≡ true → isLoad w ≡ true → o ≡ record { byte = deviceNumber (placeOfWord w v n) * 4 + 1; word = i; done = 1 }
+  pub writes : toDevice w v n ≡ true → isStore w ≡ true
+      → o ≡ record { byte = deviceNumber (placeOfWord w v n) * 4 + 2; word = register v (destination w); done = 1 }
+  pub none : toDevice w v n ≡ false → o ≡ silent 1
+
 -- A clock that was fed i, after which w is seen, and that answered o.
 module _ (b : Book) where
   -- held, or of an instruction that goes on: nothing is seen to change but the counts, and no device is reached
@@ -47,13 +56,13 @@ module _ (b : Book) where
 
   -- an interrupt: "bank 1's R7 := NZCV .., PC ..; mode 1; PC 2 or 3"
   pub record Interrupted (i : Pins) (w : Seen) (o : Answer) : Type 0 where
-    pub visible : w .visible ≡ interrupted (b .seen .visible) (interruptAt b i)
+    pub visible : w .visible ≡ interrupted (b .seen .visible) (interruptTo (b .seen .visible .status) (i .line))
     pub memory : w .memory ≡ b .seen .memory
     pub silent : o ≡ silent 0
 
 module _ (p : List ℕ) (b : Book) where
-  -- the last clock of an instruction: it took its charge c, and the word at PC is carried out; a device load's word is this clock's input
-  -- word, and arrives in R.d; a device store's word is R.d; without a device the answer is zero
+  -- the last clock of an instruction: it took its charge c, and the word at PC is carried out, with this clock's input word, which
+  -- arrives in R.d if it is a device load
   pub record Finished (i : Pins) (w : Seen) (o : Answer) (c : ℕ) : Type 0 where
     pub took : suc (b .spent) ≡ c
     pub visible : w .visible ≡ execute (wordOf p b) (b .seen .visible) (loaded (wordOf p b) (b .seen .visible) (sizeOf b) (i .input)
@@ -63,16 +72,8 @@ module _ (p : List ℕ) (b : Book) where
         (set (b .seen .memory) (target (wordOf p b) (b .seen .visible) (sizeOf b)) (stored (wordOf p b) (b .seen .visible)))
         (b .seen .memory)
     pub answer : o ≡ answerOf (wordOf p b) (b .seen .visible) (sizeOf b) (i .input)
-    pub reads : accessing p b ≡ true → isLoad (wordOf p b) ≡ true
-        → o ≡ record { byte = deviceNumber (placeOfWord (wordOf p b) (b .seen .visible) (sizeOf b)) * 4 + 1; word = i .input; done = 1 }
+    pub answers : Answers (wordOf p b) (b .seen .visible) (sizeOf b) (i .input) o
     pub arrives : accessing p b ≡ true → isLoad (wordOf p b) ≡ true → register (w .visible) (destination (wordOf p b)) ≡ i .input
-    pub writes : accessing p b ≡ true → isStore (wordOf p b) ≡ true
-        → o ≡ record {
-          byte = deviceNumber (placeOfWord (wordOf p b) (b .seen .visible) (sizeOf b)) * 4 + 2;
-          word = register (b .seen .visible) (destination (wordOf p b));
-          done = 1;
-        }
-    pub none : accessing p b ≡ false → o ≡ silent 1
 
   unfoldable pub Does : Pins → Seen → Answer → Did → Type 0
   Does i w o waited = Still b w o

@@ -4,7 +4,7 @@
 --   Did                           what a clock was spent on
 --   Book, opened w                the book, and that of a log that starts with w seen
 --   due, refillOver, writebackOver   the charge of the word at PC; the bursts of the one in flight that are over
---   interrupting, interruptAt     the interrupt rule, in bits
+--   interrupts, interruptTo       the interrupt rule in bits: whether one is taken, and to which PC
 --   went, turned, closed          what a clock was spent on, the book after it, and at the end of a call
 --   longest G                     the greatest charge
 use Prim.Native.Nat.{ℕ, suc, _+_, _*_, _/_, max}
@@ -57,17 +57,20 @@ sizeOf b = length (b .seen .memory)
 abbrev pub accessing : List ℕ → Book → Bool
 accessing p b = toDevice (wordOf p b) (b .seen .visible) (sizeOf b)
 
-module _ (b : Book) where
-  -- line k is high and enabled by status bit k
-  unfoldable pub raised : ℕ → Pins → Bool
-  raised k i = eqb (bit k (b .seen .visible .status)) 1 && eqb (bit k (i .line)) 1
+-- line k is high and enabled by status bit k
+unfoldable pub raised : ℕ → ℕ → ℕ → Bool
+raised k status line = eqb (bit k status) 1 && eqb (bit k line) 1
 
-  -- "takes an interrupt if the mode is 0 and an enabled line is high", with no instruction in flight; "line 0 before line 1: .. PC 2 or 3"
-  unfoldable pub interrupting : Pins → Bool
-  interrupting i = eqb (b .spent) 0 && (not (eqb (bit 2 (b .seen .visible .status)) 1) && (raised 0 i || raised 1 i))
+-- "takes an interrupt if the mode is 0 and an enabled line is high, line 0 before line 1: .. PC 2 or 3"
+unfoldable pub interrupts : ℕ → ℕ → Bool
+interrupts status line = not (eqb (bit 2 status) 1) && (raised 0 status line || raised 1 status line)
 
-  unfoldable pub interruptAt : Pins → ℕ
-  interruptAt i = cond (raised 0 i) 2 3
+unfoldable pub interruptTo : ℕ → ℕ → ℕ
+interruptTo status line = cond (raised 0 status line) 2 3
+
+-- a clock that is not held takes an interrupt: with no instruction in flight, by the rule
+unfoldable pub interrupting : Book → Pins → Bool
+interrupting b i = eqb (b .spent) 0 && interrupts (b .seen .visible .status) (i .line)
 
 module _ (G : Geometry) (p : List ℕ) (b : Book) where
   -- "an access refills unless .."; the block that its line holds is dirty

@@ -1,7 +1,7 @@
 -- Demand 3 and the claims around it: one statement to a field of `Claims`, each under its sentence.
 -- Demand 3 is the first field, `Demand3` of specs/Demand.antt; the others say more of what it is made of. The value is in
 -- proofs/Theorems.antt. Assumes nothing.
-use Prim.Native.Nat.{ℕ, _≤_}
+use Prim.Native.Nat.{ℕ}
 use mathlib.Core.Path.{_≡_}
 use mathlib.Core.Bool.{true, false}
 use mathlib.Core.List.{List}
@@ -12,7 +12,7 @@ use denote.Struct.Declared.{row}
 use Rattle.trm_reference.specs.Geometry.{Geometry, paperGeometry, geometryOk}
 use Rattle.trm_reference.specs.Interrupt.{stalled}
 use Rattle.trm_reference.specs.Trace.{Pins, clocks, endOf, outsOf}
-use Rattle.trm_reference.specs.Reference.{Reference, charge, referenceClock, referenceReset}
+use Rattle.trm_reference.specs.Reference.{Reference, referenceClock}
 use Rattle.trm_core.specs.Record.{Lent, start}
 use Rattle.trm_core.specs.Clock.{clockOf}
 use Rattle.trm_core.specs.Refusals.{resetRefusal, clockRefusal, runRefusal}
@@ -25,11 +25,10 @@ use Rattle.trm_calls.specs.declared.answer.Reset.{Reset}
 use Rattle.trm_calls.specs.declared.answer.Clock.{Clock}
 use Rattle.trm_calls.specs.declared.answer.Run.{Run}
 use Rattle.trm_agreement.specs.Log.{clocksOf, entries, calls, logOf, clockedIn, answersIn, fedOf, stateOf}
-use Rattle.trm_agreement.specs.Calls.{Call, runCall, feed, answer, runEnds, recordSeen, recordEngine, referenceSeen, referenceEngine}
+use Rattle.trm_agreement.specs.Calls.{Call, runCall, feed, answer, runEnds, recordSeen, recordEngine, referenceEngine}
 use Rattle.trm_agreement.specs.Contracts.{ResetMet, ClockMet, RunMet}
-use Rattle.trm_agreement.specs.Book.{opened, longest}
-use Rattle.trm_agreement.specs.Audit.{Audited, accessesIn, deviceAnswers}
 use Rattle.trm_agreement.specs.Demand.{Holds, Demand3}
+use Rattle.trm_agreement.specs.Plain.{InterruptRule, AnswersHold, PlainClock, Bounded, PlainMachine}
 
 -- What `Demand3` promises of the log of the calls, of the definitions that the contracts cite, for every geometry of `geometryOk`.
 abbrev pub EveryGeometry : Type 0
@@ -37,24 +36,6 @@ EveryGeometry =
     (G : Geometry) (p s : List ℕ) (cs : List Call) → geometryOk G ≡ true → resetRefusal s ≡ 0
     → Holds G p s cs (recordSeen G (start G s)) (calls feed answer (recordEngine G p) (start G s) cs)
     (recordSeen G (stateOf feed answer (recordEngine G p) (start G s) cs))
-
--- The plain machine alone, over any clocks from a reset, with line bytes that a call would refuse and past the greatest clock count too:
--- its ledger, its interrupts and the clocks that change nothing, and its devices.
-pub record PlainHolds (G : Geometry) (p s : List ℕ) (is : List Pins) : Type 0 where
-  pub audited : Audited G p (opened (referenceSeen (referenceReset s)))
-      (entries feed answer (referenceEngine G p) (clocks (referenceClock G p) (referenceReset s) is) is)
-  pub devices : deviceAnswers (outsOf (clocks (referenceClock G p) (referenceReset s) is))
-      ≡ accessesIn G p (opened (referenceSeen (referenceReset s)))
-      (entries feed answer (referenceEngine G p) (clocks (referenceClock G p) (referenceReset s) is) is)
-
-abbrev pub PlainMachine : Type 0
-PlainMachine = (G : Geometry) (p s : List ℕ) (is : List Pins) → geometryOk G ≡ true → PlainHolds G p s is
-
--- Every charge is 1 at least and the longest at most, of any word in any state; the paper's geometry is one of `geometryOk`.
-pub record Bounded : Type 0 where
-  pub fits : geometryOk paperGeometry ≡ true
-  pub positive : (G : Geometry) (w : ℕ) (q : Reference) → 1 ≤ charge G w q
-  pub charges : (G : Geometry) (w : ℕ) (q : Reference) → charge G w q ≤ longest G
 
 -- A list of calls is a list of clocks, those of the calls that were not refused: its last state, the clocks of its log with what each
 -- was fed, what was seen after it and what it answered, and their answers.
@@ -115,6 +96,9 @@ pub record OfTheCode (m : Machine) : Type 0 where
 pub record Claims : Type 0 where
   pub demand-3 : Demand3
   pub every-geometry : EveryGeometry
+  pub interrupt-rule : InterruptRule
+  pub answers-hold : AnswersHold
+  pub plain-clock : (G : Geometry) (p : List ℕ) (q : Reference) (i : Pins) → PlainClock G p q i
   pub plain-machine : PlainMachine
   pub bounded : Bounded
   pub calls-are-clocks : (G : Geometry) (p : List ℕ) (q : Reference) (cs : List Call) → CallsAreClocks G p q cs

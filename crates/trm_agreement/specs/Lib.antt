@@ -1,5 +1,5 @@
 -- Demand 3, in reading order: a machine's log over a list of calls, the calls, what they hand back, the book of a log and its audit, demand
--- 3 itself (read specs/Demand.antt first), and the claims around it.
+-- 3 itself (read specs/Demand.antt first), the plain machine alone, and the claims.
 -- Paper: "The plain machine of demand 3 ..", "Demand 3 is one statement on the whole list". Assumes nothing.
 pub mod Log
 pub mod Calls
@@ -8,4 +8,5 @@ pub mod Exchange
 pub mod Book
 pub mod Audit
 pub mod Demand
+pub mod Plain
 pub mod Claims

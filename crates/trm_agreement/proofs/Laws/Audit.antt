@@ -20,11 +20,11 @@ use Rattle.trm_agreement.specs.Book.{Did, waited, acknowledged, worked, 
 use Rattle.trm_agreement.specs.Book.{accessing, went, turned, closed}
 use Rattle.trm_agreement.specs.Audit.{Balanced, Does, Audited, bookAt, accessesIn, deviceAnswers}
 use Rattle.trm_agreement.specs.Demand.{Holds}
-use Rattle.trm_agreement.specs.Claims.{PlainMachine}
+use Rattle.trm_agreement.specs.Plain.{plainEntries, plainEnd, plainBook, PlainMachine}
 use Rattle.trm_agreement.proofs.Laws.Log.{entries-answers, calls-last}
 use Rattle.trm_agreement.proofs.Laws.Numbers.{returns-not-five}
 use Rattle.trm_agreement.proofs.Laws.Devices.{byte-shows}
-use Rattle.trm_agreement.proofs.Laws.Book.{seenOf, bookOf, Kept, balanced, Step, clock-step, reset-kept}
+use Rattle.trm_agreement.proofs.Laws.Book.{seenOf, bookOf, due-is, Kept, balanced, Step, clock-step, reset-kept}
 
 module _ (G : Geometry) (p : List ℕ) where
   -- a call that ends with what its last clock left
@@ -69,6 +69,33 @@ module _ (G : Geometry) (p : List ℕ) where
           choose false = refl
 
 module _ (G : Geometry) (pos : 0 < burst G) (p : List ℕ) where
+  -- the book after a clock is that of the state after it
+  turned-is : (q : Reference) (sp hd ch : ℕ) (i : Pins) (k : Kept G pos p q sp hd ch)
+      → let st = clock-step G pos p q sp hd ch i k in
+      turned G p (bookOf q sp hd ch) (seenOf (referenceClock G p q i .state)) (went G p (bookOf q sp hd ch) i (referenceClock G p q i .out))
+      ≡ bookOf (referenceClock G p q i .state) (st .sp′) (st .hd′) (st .ch′)
+  turned-is q sp hd ch i k = let st = clock-step G pos p q sp hd ch i k in
+      ap (turned G p (bookOf q sp hd ch) (seenOf (referenceClock G p q i .state))) (st .is) ∙ st .next
+
+  -- the book after some clocks, and what ties it to the state then
+  record Reached (q : Reference) (b : Book) : Type 0 where
+    sp : ℕ
+    hd : ℕ
+    ch : ℕ
+    is : b ≡ bookOf q sp hd ch
+    kept : Kept G pos p q sp hd ch
+
+  reached-clocks : (is : List Pins) (q : Reference) (sp hd ch : ℕ) → Kept G pos p q sp hd ch
+      → Reached (endOf q (clocks (referenceClock G p) q is))
+      (bookAt G p (bookOf q sp hd ch) (entries feed answer (referenceEngine G p) (clocks (referenceClock G p) q is) is))
+  unfolding clocks endOf entries bookAt referenceEngine referenceSeen
+  reached-clocks [] q sp hd ch k = record { sp = sp; hd = hd; ch = ch; is = refl; kept = k }
+  reached-clocks (i ∷ is) q sp hd ch k = let st = clock-step G pos p q sp hd ch i k in
+      subst (λ b. Reached (endOf (referenceClock G p q i .state) (clocks (referenceClock G p) (referenceClock G p q i .state) is))
+      (bookAt G p b (entries feed answer (referenceEngine G p) (clocks (referenceClock G p) (referenceClock G p q i .state) is) is)))
+      (sym (turned-is q sp hd ch i k))
+      (reached-clocks is (referenceClock G p q i .state) (st .sp′) (st .hd′) (st .ch′) (st .kept))
+
   -- the clocks of a call, and the rest of the log after them
   audited-clocks : (is : List Pins) (es : List Line) (q : Reference) (sp hd ch : ℕ) → Kept G pos p q sp hd ch
       → ((sp′ hd′ ch′ : ℕ) → Kept G pos p (endOf q (clocks (referenceClock G p) q is)) sp′ hd′ ch′
@@ -93,7 +120,7 @@ module _ (G : Geometry) (pos : 0 < burst G) (p : List ℕ) where
 
       after : turned G p (bookOf q sp hd ch) (seenOf u) (went G p (bookOf q sp hd ch) i (referenceClock G p q i .out))
           ≡ bookOf u (st .sp′) (st .hd′) (st .ch′)
-      after = ap (turned G p (bookOf q sp hd ch) (seenOf u)) (st .is) ∙ st .next
+      after = turned-is q sp hd ch i k
 
   audited-calls : (cs : List Call) (q : Reference) (sp hd ch : ℕ) → Kept G pos p q sp hd ch
       → Audited G p (bookOf q sp hd ch) (calls feed answer (referenceEngine G p) q cs)
@@ -114,10 +141,7 @@ module _ (G : Geometry) (pos : 0 < burst G) (p : List ℕ) where
           (refl, more (endOf q (clocks (referenceClock G p) q (feed c))) sp′ hd′ ch′ k′))
       go more false = (refl, more q sp hd ch k)
 
-module _ (G : Geometry) (ok : geometryOk G ≡ true) (p s : List ℕ) where
-  pos : 0 < burst G
-  pos = fit G 64 ok (unfold storeLengthOk in refl) .tpos
-
+module _ (G : Geometry) (pos : 0 < burst G) (p s : List ℕ) where
   opens-at : opened (referenceSeen (referenceReset s)) ≡ bookOf (referenceReset s) 0 0 0
   unfolding opened referenceSeen referenceReset
   opens-at = refl
@@ -136,11 +160,11 @@ module _ (G : Geometry) (ok : geometryOk G ≡ true) (p s : List ℕ) where
       (λ sp hd ch k. tt)))
 
   -- a log that is that of the reference machine, and what is seen last in it
-  pub of-log : (cs : List Call) (first : Seen) (es : List Line) (last : Seen)
+  log-holds : (cs : List Call) (first : Seen) (es : List Line) (last : Seen)
       → started first ∷ es ≡ logOf feed answer (referenceEngine G p) (referenceReset s) cs → lastSeen first es ≡ last
       → Holds G p s cs first es last
   unfolding logOf lastSeen referenceEngine
-  of-log cs first es last whole end = record {
+  log-holds cs first es last whole end = record {
     same = whole;
     balanced = λ ds rest e. prefixes G p (opened first) ds rest (rw starts log-opens) (rw e at audit);
     audited = audit;
@@ -160,8 +184,26 @@ module _ (G : Geometry) (ok : geometryOk G ≡ true) (p s : List ℕ) where
 
 pub plain-machine : PlainMachine
 unfolding referenceEngine
-plain-machine G p s is ok = record {
-  audited = clocks-audited G ok p s is;
+plain-machine G p s is pos = record {
+  audited = clocks-audited G pos p s is;
   devices = ap deviceAnswers (sym (entries-answers feed answer (referenceEngine G p) (referenceReset s) is))
-      ∙ audited-devices G p _ _ (clocks-audited G ok p s is);
+      ∙ audited-devices G p _ _ (clocks-audited G pos p s is);
+  between = λ z. ap (λ (b : Book). b .spent) at-end ∙ r .kept .idle z;
+  flying = λ z. rw at-end (r .kept .sum z ∙ sym (due-is G pos p (plainEnd G p s is) (r .sp) (r .hd) (r .ch)));
 }
+  where
+    r : Reached G pos p (plainEnd G p s is) (bookAt G p (bookOf (referenceReset s) 0 0 0) (plainEntries G p s is))
+    r = reached-clocks G pos p is (referenceReset s) 0 0 0 (reset-kept G pos p s)
+
+    at-end : plainBook G p s is ≡ bookOf (plainEnd G p s is) (r .sp) (r .hd) (r .ch)
+    at-end = ap (λ b. bookAt G p b (plainEntries G p s is)) (opens-at G pos p s) ∙ r .is
+
+-- a burst takes a clock
+burst-pos : (G : Geometry) → geometryOk G ≡ true → 0 < burst G
+burst-pos G ok = fit G 64 ok (unfold storeLengthOk in refl) .tpos
+
+-- a log that is that of the reference machine, for every geometry of `geometryOk`
+pub of-log : (G : Geometry) → geometryOk G ≡ true → (p s : List ℕ) (cs : List Call) (first : Seen) (es : List Line) (last : Seen)
+    → started first ∷ es ≡ logOf feed answer (referenceEngine G p) (referenceReset s) cs → lastSeen first es ≡ last
+    → Holds G p s cs first es last
+of-log G ok p s cs first es last whole end = log-holds G (burst-pos G ok) p s cs first es last whole end

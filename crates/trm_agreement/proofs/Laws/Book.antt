@@ -8,14 +8,14 @@ use mathlib.Core.Path.{_≡_, refl, sym, ap, ap₂, _∙_}
 use mathlib.Core.Logic.{_≢_}
 use mathlib.Core.Bool.{Bool, true, false, cond, not, _&&_}
 use mathlib.Core.List.{List}
-use lib.ListN.{length, getD}
+use lib.ListN.{length}
 use lib.Dec.{eqb}
 use borrow.Author.Tests.{eqb-true, eqb-false, eq-eqb, ne-eqb}
 use native.Mathlib.Omega.{arith}
 use native.Mathlib.Nat.{add-zero}
 use Rattle.trm_reference.specs.Geometry.{Geometry, burst}
 use Rattle.trm_reference.specs.Visible.{wordAt, resetVisible}
-use Rattle.trm_reference.specs.Access.{isStore, target, Answer}
+use Rattle.trm_reference.specs.Access.{isStore, Answer}
 use Rattle.trm_reference.specs.Interrupt.{stalled, interruptChosen, interrupted}
 use Rattle.trm_reference.specs.History.{Event, dirtyLines, refillsIn, writebacksIn}
 use Rattle.trm_reference.specs.Trace.{Pins, After}
@@ -25,12 +25,12 @@ use Rattle.trm_reference.proofs.Laws.Execute.{execute-regs, interrupted-regs}
 use Rattle.trm_core.proofs.Laws.Deaf.{answer-done}
 use Rattle.trm_core.proofs.Laws.Kind.{Kind, kindOf, Is, kind-is, isCached, chargeOfKind}
 use Rattle.trm_agreement.specs.Calls.{Seen}
-use Rattle.trm_agreement.specs.Book.{Did, waited, acknowledged, worked, finished, Book, raised, interrupting, interruptAt}
+use Rattle.trm_agreement.specs.Book.{Did, waited, acknowledged, worked, finished, Book, interruptTo, interrupting}
 use Rattle.trm_agreement.specs.Book.{missing, evicting, due, refillOver, writebackOver, went, joined, turned}
 use Rattle.trm_agreement.specs.Audit.{Balanced, Does}
 use Rattle.trm_agreement.proofs.Laws.Bounds.{charge-pos, charge-bounded}
-use Rattle.trm_agreement.proofs.Laws.Interrupts.{named-in-bits, goes-to}
-use Rattle.trm_agreement.proofs.Laws.Devices.{Moves, device-moves}
+use Rattle.trm_agreement.proofs.Laws.Interrupts.{taken-in-bits, goes-to}
+use Rattle.trm_agreement.proofs.Laws.Devices.{answers-hold, device-arrives}
 use Rattle.trm_agreement.proofs.Laws.Counts.{fills, writes, idle-fills, idle-writes, spent-fills, spent-writes, done-fills}
 use Rattle.trm_agreement.proofs.Laws.Counts.{done-writes, joined-fills, joined-writes, refill-adds, writeback-adds}
 
@@ -72,7 +72,7 @@ module _ (G : Geometry) (pos : 0 < burst G) (p : List ℕ) where
   charge-is q = tests q .charge G (missesFor q) (evictsFor q) (dirtyLines G (q .history))
 
   module _ (q : Reference) (sp hd ch : ℕ) where
-    due-is : due G p (bookOf q sp hd ch) ≡ charge G (wordFor q) q
+    pub due-is : due G p (bookOf q sp hd ch) ≡ charge G (wordFor q) q
     unfolding due charge missing misses evicting evicts
     due-is = refl
 
@@ -83,13 +83,12 @@ module _ (G : Geometry) (pos : 0 < burst G) (p : List ℕ) where
     -- the interrupt rule
     interrupting-is : (i : Pins) → interrupting (bookOf q sp hd ch) i
         ≡ eqb sp 0 && not (eqb (interruptChosen (q .visible .status) (i .line)) 0)
-    unfolding interrupting raised
-    interrupting-is i = rw (named-in-bits (q .visible .status) (i .line))
+    unfolding interrupting
+    interrupting-is i = rw (taken-in-bits (q .visible .status) (i .line))
 
     interrupt-at : (i : Pins) → eqb (interruptChosen (q .visible .status) (i .line)) 0 ≡ false
-        → interruptChosen (q .visible .status) (i .line) ≡ interruptAt (bookOf q sp hd ch) i
-    unfolding interruptAt raised
-    interrupt-at i e = goes-to (q .visible .status) (i .line) e
+        → interruptChosen (q .visible .status) (i .line) ≡ interruptTo (q .visible .status) (i .line)
+    interrupt-at i e = goes-to (q .visible .status) (i .line) (sym (taken-in-bits (q .visible .status) (i .line)) ∙ rw e)
 
     refill-is : refillOver G p (bookOf q sp hd ch) ≡ fills (isCached (kindFor q) && missesFor q) (charge G (wordFor q) q) sp
     unfolding refillOver due charge missing misses evicting evicts
@@ -239,10 +238,8 @@ module _ (G : Geometry) (pos : 0 < burst G) (p : List ℕ) where
         visible = refl;
         memory = refl;
         answer = refl;
-        reads = moves .reads;
-        arrives = moves .arrives;
-        writes = moves .writes;
-        none = moves .none;
+        answers = answers-hold (wordFor q) (q .visible) (length (q .memory)) (i .input);
+        arrives = device-arrives (wordFor q) (q .visible) (length (q .memory)) (i .input) _ (let y = k .wide in omega arith);
       };
       sp′ = 0;
       hd′ = hd;
@@ -264,10 +261,6 @@ module _ (G : Geometry) (pos : 0 < burst G) (p : List ℕ) where
           ∙ rw (← tests q .through, ← tests q .off)) ∙ sym (joined-writes G (wordFor q) q))
           (execute-regs (wordFor q) (q .visible) _ ∙ k .wide);
     }
-      where
-        moves : Moves (wordFor q) (q .visible) (length (q .memory)) (i .input)
-            (getD (q .memory) (target (wordFor q) (q .visible) (length (q .memory))) 0)
-        moves = device-moves (wordFor q) (q .visible) (length (q .memory)) (i .input) _ (let y = k .wide in omega arith)
 
     -- one is taken off the n that are left
     take-step : (n : ℕ) → stalled (i .line) ≡ false

@@ -18,7 +18,7 @@ use Rattle.trm_core.specs.Clock.{chargeHere}
 use Rattle.trm_core.proofs.Laws.Kind.{Kind, quick, second, longer, device, cached, uncached, clearing, kindOf, kind-is, chargeOfKind}
 use Rattle.trm_cache.proofs.Laws.Dirty.{howMany-le}
 use Rattle.trm_agreement.specs.Book.{longest}
-use Rattle.trm_agreement.specs.Claims.{Bounded}
+use Rattle.trm_agreement.specs.Plain.{Bounded}
 
 module _ (G : Geometry) where
   kind-pos : (k : Kind) (store misses evicts : Bool) (dirty : ℕ) → 0 < chargeOfKind G k store misses evicts dirty

@@ -17,6 +17,7 @@ use Rattle.trm_reference.specs.Access.{isLoad, isStore, isAccess, isMemory, pla
 use Rattle.trm_reference.specs.Access.{deviceAnswer, answerOf}
 use Rattle.trm_reference.specs.Execute.{execute}
 use Rattle.trm_core.proofs.Laws.Deaf.{load-only}
+use Rattle.trm_agreement.specs.Audit.{Answers}
 
 -- the byte of an access is not zero
 pub byte-shows : (w : ℕ) (v : Visible) (n i : ℕ) → eqb (answerOf w v n i .byte) 0 ≡ not (toDevice w v n)
@@ -29,15 +30,6 @@ byte-shows w v n i = go (toDevice w v n) (isStore w)
     go true false = ne-eqb (deviceNumber (placeOfWord w v n) * 4 + 1) 0 (omega arith)
     go false u = refl
 
--- a load's word is the clock's input word, and R.d gets it; a store's word is R.d; without a device the answer is zero
-pub record Moves (w : ℕ) (v : Visible) (n i x : ℕ) : Type 0 where
-  pub reads : toDevice w v n ≡ true → isLoad w ≡ true
-      → answerOf w v n i ≡ record { byte = deviceNumber (placeOfWord w v n) * 4 + 1; word = i; done = 1 }
-  pub arrives : toDevice w v n ≡ true → isLoad w ≡ true → register (execute w v (loaded w v n i x)) (destination w) ≡ i
-  pub writes : toDevice w v n ≡ true → isStore w ≡ true
-      → answerOf w v n i ≡ record { byte = deviceNumber (placeOfWord w v n) * 4 + 2; word = register v (destination w); done = 1 }
-  pub none : toDevice w v n ≡ false → answerOf w v n i ≡ silent 1
-
 -- R.d gets what LD loads
 load-arrives : (w : ℕ) (v : Visible) (x : ℕ) → isLoad w ≡ true → 16 ≤ length (v .regs) → register (execute w v x) (destination w) ≡ x
 unfolding isLoad execute register withRegister registerIndex
@@ -47,14 +39,14 @@ load-arrives w v x e h = rw (eqb-true (operation w) 12 e) (getD-set-same (v .reg
     small = let a = mod-lt (v .status / 2 ^ 2) {m = 2} (omega arith) in let b = mod-lt (w / 2 ^ 11) {m = 2 ^ 3}
         (omega arith) in omega arith
 
-pub device-moves : (w : ℕ) (v : Visible) (n i x : ℕ) → 16 ≤ length (v .regs) → Moves w v n i x
-unfolding answerOf deviceAnswer loaded stored
-device-moves w v n i x h = record {
-  reads = λ d l. rw (d, load-only w l);
-  arrives = λ d l. rw (not-memory d) (load-arrives w v i l h);
-  writes = λ d s. rw (d, s);
-  none = λ d. rw d;
-}
+pub answers-hold : (w : ℕ) (v : Visible) (n i : ℕ) → Answers w v n i (answerOf w v n i)
+unfolding answerOf deviceAnswer stored
+answers-hold w v n i = record { reads = λ d l. rw (d, load-only w l); writes = λ d s. rw (d, s); none = λ d. rw d }
+
+pub device-arrives : (w : ℕ) (v : Visible) (n i x : ℕ) → 16 ≤ length (v .regs) → toDevice w v n ≡ true → isLoad w ≡ true
+    → register (execute w v (loaded w v n i x)) (destination w) ≡ i
+unfolding loaded
+device-arrives w v n i x h d l = rw (not-memory d) (load-arrives w v i l h)
   where
     not-memory : toDevice w v n ≡ true → isMemory (placeOfWord w v n) ≡ false
     not-memory = unfold toDevice in go (isAccess w) (isMemory (placeOfWord w v n))

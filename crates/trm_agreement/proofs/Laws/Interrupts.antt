@@ -1,33 +1,122 @@
--- The interrupt rule in bits: when one is named, and to which PC.
+-- The interrupt rule in bits, and one clock of the plain machine from any state.
 -- Idea: the tests decide each case.
 -- Assumes nothing.
-use Prim.Native.Nat.{ℕ}
-use mathlib.Core.Path.{_≡_, refl}
+--   interrupt-rule    named-in-bits, goes-to   what it gives        plain-clock
+use Prim.Native.Nat.{ℕ, _-_}
+use mathlib.Core.Path.{_≡_, refl, _∙_}
+use mathlib.Core.Logic.{_≢_}
 use mathlib.Core.Bool.{Bool, true, false, cond, not, _&&_, _||_}
+use mathlib.Core.List.{List}
+use lib.ListN.{length}
 use lib.Dec.{eqb}
+use borrow.Author.Tests.{eq-eqb, ne-eqb}
+use native.Mathlib.Omega.{arith}
 use Rattle.trm_laws.proofs.Tests.{bool-clash}
 use Rattle.trm_word.specs.Fields.{bit}
-use Rattle.trm_reference.specs.Interrupt.{lineRaised, interruptChosen}
+use Rattle.trm_reference.specs.Geometry.{Geometry}
+use Rattle.trm_reference.specs.Visible.{wordAt}
+use Rattle.trm_reference.specs.Access.{Answer, silent}
+use Rattle.trm_reference.specs.Interrupt.{stalled, lineRaised, interruptChosen}
+use Rattle.trm_reference.specs.Trace.{Pins, After}
+use Rattle.trm_reference.specs.Reference.{Reference, charge, carryOut, spend, takeOff, referenceHeld, referenceInterrupt}
+use Rattle.trm_reference.specs.Reference.{referenceUnheld, referenceClock}
+use Rattle.trm_core.proofs.Laws.Deaf.{answer-done}
+use Rattle.trm_agreement.specs.Book.{raised, interrupts, interruptTo}
+use Rattle.trm_agreement.specs.Plain.{InterruptRule, PlainClock}
 
-pub named-in-bits : (status line : ℕ) → not (eqb (interruptChosen status line) 0)
-    ≡ not (eqb (bit 2 status) 1) && (eqb (bit 0 status) 1 && eqb (bit 0 line) 1 || eqb (bit 1 status) 1 && eqb (bit 1 line) 1)
-unfolding interruptChosen lineRaised
-named-in-bits status line =
+pub interrupt-rule : InterruptRule
+unfolding interruptChosen lineRaised interrupts interruptTo raised
+interrupt-rule status line =
     go (eqb (bit 2 status) 1) (eqb (bit 0 status) 1 && eqb (bit 0 line) 1) (eqb (bit 1 status) 1 && eqb (bit 1 line) 1)
   where
-    go : (m a c : Bool) → not (eqb (cond m 0 (cond a 2 (cond c 3 0))) 0) ≡ not m && (a || c)
+    go : (m a c : Bool) → _≡_ {A = ℕ} (cond m 0 (cond a 2 (cond c 3 0))) (cond (not m && (a || c)) (cond a 2 3) 0)
     go true a c = refl
     go false true c = refl
     go false false true = refl
     go false false false = refl
 
-pub goes-to : (status line : ℕ) → eqb (interruptChosen status line) 0 ≡ false
-    → interruptChosen status line ≡ cond (eqb (bit 0 status) 1 && eqb (bit 0 line) 1) 2 3
-unfolding interruptChosen lineRaised
-goes-to status line = go (eqb (bit 2 status) 1) (eqb (bit 0 status) 1 && eqb (bit 0 line) 1) (eqb (bit 1 status) 1 && eqb (bit 1 line) 1)
+-- whether the number is not 0; an interrupt that is taken goes to 2 or 3
+pub taken-in-bits : (status line : ℕ) → not (eqb (interruptChosen status line) 0) ≡ interrupts status line
+unfolding interruptTo
+taken-in-bits status line = rw (interrupt-rule status line) (go (interrupts status line) (raised 0 status line))
   where
-    go : (m a c : Bool) → eqb (cond m 0 (cond a 2 (cond c 3 0))) 0 ≡ false → _≡_ {A = ℕ} (cond m 0 (cond a 2 (cond c 3 0))) (cond a 2 3)
-    go true a c e = bool-clash true refl e
-    go false true c e = refl
-    go false false true e = refl
-    go false false false e = bool-clash true refl e
+    go : (t a : Bool) → not (eqb (cond t (cond a 2 3) 0) 0) ≡ t
+    go true true = refl
+    go true false = refl
+    go false a = refl
+
+pub goes-to : (status line : ℕ) → interrupts status line ≡ true → interruptChosen status line ≡ interruptTo status line
+goes-to status line e = interrupt-rule status line ∙ rw e
+
+-- what a clock shows that carries a word out or does not, t telling of an interrupt
+record Shows (G : Geometry) (w : ℕ) (q : Reference) (input : ℕ) (t : Bool) (u : After Reference Answer) : Type 0 where
+  carries : u .out .done ≡ 1 → u ≡ carryOut G w q input
+  quiet : u .out .done ≢ 1 → u .out ≡ silent 0
+  still : u .out .done ≢ 1 → t ≡ false → (u .state .visible ≡ q .visible) × (u .state .memory ≡ q .memory)
+
+module _ (G : Geometry) (w : ℕ) (q : Reference) (input : ℕ) where
+  held-shows : Shows G w q input false (referenceHeld q)
+  unfolding referenceHeld
+  held-shows = record { carries = λ d. absurd (omega (arith, d)); quiet = λ _. refl; still = λ _ _. (refl, refl) }
+
+  interrupt-shows : (to : ℕ) → Shows G w q input true (referenceInterrupt to q)
+  unfolding referenceInterrupt
+  interrupt-shows to = record { carries = λ d. absurd (omega (arith, d)); quiet = λ _. refl; still = λ _ e. bool-clash true refl e }
+
+  off-shows : (n : ℕ) → Shows G w q input false (takeOff G w q n input)
+  unfolding takeOff
+  off-shows n = go (eqb (n - 1) 0)
+    where
+      done : carryOut G w q input .out .done ≡ 1
+      done = unfold carryOut in answer-done w (q .visible) (length (q .memory)) input
+
+      go : (t : Bool) → Shows G w q input false (cond t (carryOut G w q input) (spend G w q (n - 1)))
+      go true = record { carries = λ _. refl; quiet = λ d. absurd (d done); still = λ d _. absurd (d done) }
+      go false = unfold spend in
+          record { carries = λ d. absurd (omega (arith, d)); quiet = λ _. refl; still = λ _ _. (refl, refl) }
+
+module _ (G : Geometry) (p : List ℕ) (q : Reference) (i : Pins) where
+  w : ℕ
+  w = wordAt p (q .visible .pc)
+
+  chosen : ℕ
+  chosen = interruptChosen (q .visible .status) (i .line)
+
+  shows : Shows G (wordAt p (q .visible .pc)) q (i .input)
+      (not (stalled (i .line)) && eqb (q .left) 0 && interrupts (q .visible .status) (i .line)) (referenceClock G p q i)
+  unfolding referenceClock referenceUnheld w chosen
+  shows = rw (← taken-in-bits (q .visible .status) (i .line)) (go (stalled (i .line)) (eqb (q .left) 0) (eqb chosen 0))
+    where
+      go : (s z c : Bool) → Shows G w q (i .input) (not s && z && not c)
+          (cond s (referenceHeld q) (cond z (cond c (takeOff G w q (charge G w q) (i .input)) (referenceInterrupt chosen q))
+          (takeOff G w q (q .left) (i .input))))
+      go true z c = held-shows G w q (i .input)
+      go false true true = off-shows G w q (i .input) (charge G w q)
+      go false true false = interrupt-shows G w q (i .input) chosen
+      go false false c = off-shows G w q (i .input) (q .left)
+
+  pub plain-clock : PlainClock G p q i
+  unfolding referenceClock referenceUnheld
+  plain-clock = record {
+    held = λ s. rw s;
+    takes = λ s z e. rw (s, eq-eqb (q .left) 0 z, named e, goes-to (q .visible .status) (i .line) e);
+    begins = λ s z e. rw (s, eq-eqb (q .left) 0 z, unnamed e);
+    goesOn = λ s z. rw (s, ne-eqb (q .left) 0 z);
+    carries = shows .carries;
+    quiet = shows .quiet;
+    still = shows .still;
+  }
+    where
+      other : (t u : Bool) → not (eqb (interruptChosen (q .visible .status) (i .line)) 0) ≡ t → t ≡ u
+          → eqb (interruptChosen (q .visible .status) (i .line)) 0 ≡ not u
+      other t u e f = flip (eqb (interruptChosen (q .visible .status) (i .line)) 0) u (e ∙ f)
+        where
+          flip : (a b : Bool) → not a ≡ b → a ≡ not b
+          flip true b e = rw (← e)
+          flip false b e = rw (← e)
+
+      named : interrupts (q .visible .status) (i .line) ≡ true → eqb (interruptChosen (q .visible .status) (i .line)) 0 ≡ false
+      named e = other _ true (taken-in-bits (q .visible .status) (i .line)) e
+
+      unnamed : interrupts (q .visible .status) (i .line) ≡ false → eqb (interruptChosen (q .visible .status) (i .line)) 0 ≡ true
+      unnamed e = other _ false (taken-in-bits (q .visible .status) (i .line)) e

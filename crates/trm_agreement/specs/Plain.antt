@@ -1,0 +1,74 @@
+-- The claims of the plain machine alone: the rule and the answers that both machines share, one clock from any state, the greatest charge,
+-- and any clocks from a reset, with line bytes and clock counts that no call would accept.
+-- Paper: "The plain machine of demand 3 .."; "Each adds a clock; a held one adds a held clock and no more. With no clocks left it takes
+-- an interrupt by the rule above". Assumes nothing.
+use Prim.Native.Nat.{ℕ, _+_, _≤_}
+use mathlib.Core.Path.{_≡_}
+use mathlib.Core.Logic.{_≢_}
+use mathlib.Core.Bool.{true, false, cond, not, _&&_}
+use mathlib.Core.List.{List}
+use lib.Dec.{eqb}
+use Rattle.trm_reference.specs.Geometry.{Geometry, paperGeometry, geometryOk, burst}
+use Rattle.trm_reference.specs.Visible.{Visible, wordAt}
+use Rattle.trm_reference.specs.Access.{silent, answerOf}
+use Rattle.trm_reference.specs.Interrupt.{stalled, interruptChosen}
+use Rattle.trm_reference.specs.Trace.{Pins, clocks, endOf, outsOf}
+use Rattle.trm_reference.specs.Reference.{Reference, charge, carryOut, takeOff, referenceHeld, referenceInterrupt, referenceClock}
+use Rattle.trm_reference.specs.Reference.{referenceReset}
+use Rattle.trm_agreement.specs.Log.{entries}
+use Rattle.trm_agreement.specs.Calls.{feed, answer, Line, referenceSeen, referenceEngine}
+use Rattle.trm_agreement.specs.Book.{interrupts, interruptTo, Book, opened, due, longest}
+use Rattle.trm_agreement.specs.Audit.{Answers, Audited, bookAt, accessesIn, deviceAnswers}
+
+-- The interrupt rule that both machines share is the one in bits, by which demand 3 judges them.
+abbrev pub InterruptRule : Type 0
+InterruptRule = (status line : ℕ) → interruptChosen status line ≡ cond (interrupts status line) (interruptTo status line) 0
+
+-- What an answer shows, of any word in any state.
+abbrev pub AnswersHold : Type 0
+AnswersHold = (w : ℕ) (v : Visible) (n i : ℕ) → Answers w v n i (answerOf w v n i)
+
+-- One clock of the plain machine from any state, reached or not: held; an interrupt, by the rule; a word begun, or gone on with. A clock
+-- that finishes an instruction carries the word at PC out, with this clock's input word; any other answers nothing and, but for an
+-- interrupt, leaves all that a programmer sees, and memory, as they were.
+pub record PlainClock (G : Geometry) (p : List ℕ) (q : Reference) (i : Pins) : Type 0 where
+  pub held : stalled (i .line) ≡ true → referenceClock G p q i ≡ referenceHeld q
+  pub takes : stalled (i .line) ≡ false → q .left ≡ 0 → interrupts (q .visible .status) (i .line) ≡ true
+      → referenceClock G p q i ≡ referenceInterrupt (interruptTo (q .visible .status) (i .line)) q
+  pub begins : stalled (i .line) ≡ false → q .left ≡ 0 → interrupts (q .visible .status) (i .line) ≡ false
+      → referenceClock G p q i ≡ takeOff G (wordAt p (q .visible .pc)) q (charge G (wordAt p (q .visible .pc)) q) (i .input)
+  pub goesOn : stalled (i .line) ≡ false → q .left ≢ 0
+      → referenceClock G p q i ≡ takeOff G (wordAt p (q .visible .pc)) q (q .left) (i .input)
+  pub carries : referenceClock G p q i .out .done ≡ 1 → referenceClock G p q i ≡ carryOut G (wordAt p (q .visible .pc)) q (i .input)
+  pub quiet : referenceClock G p q i .out .done ≢ 1 → referenceClock G p q i .out ≡ silent 0
+  pub still : referenceClock G p q i .out .done ≢ 1
+      → not (stalled (i .line)) && eqb (q .left) 0 && interrupts (q .visible .status) (i .line) ≡ false
+      → (referenceClock G p q i .state .visible ≡ q .visible) × (referenceClock G p q i .state .memory ≡ q .memory)
+
+-- the entries of these clocks of the plain machine after a reset, its last state, and the book then
+abbrev pub plainEntries : Geometry → List ℕ → List ℕ → List Pins → List Line
+plainEntries G p s is = entries feed answer (referenceEngine G p) (clocks (referenceClock G p) (referenceReset s) is) is
+
+abbrev pub plainEnd : Geometry → List ℕ → List ℕ → List Pins → Reference
+plainEnd G p s is = endOf (referenceReset s) (clocks (referenceClock G p) (referenceReset s) is)
+
+abbrev pub plainBook : Geometry → List ℕ → List ℕ → List Pins → Book
+plainBook G p s is = bookAt G p (opened (referenceSeen (referenceReset s))) (plainEntries G p s is)
+
+-- Over any clocks from a reset, with line bytes that a call would refuse and past the greatest clock count too, and with any geometry
+-- whose burst takes a clock: the audit, the devices, and that in flight what is spent and what is left are the charge.
+pub record PlainHolds (G : Geometry) (p s : List ℕ) (is : List Pins) : Type 0 where
+  pub audited : Audited G p (opened (referenceSeen (referenceReset s))) (plainEntries G p s is)
+  pub devices : deviceAnswers (outsOf (clocks (referenceClock G p) (referenceReset s) is))
+      ≡ accessesIn G p (opened (referenceSeen (referenceReset s))) (plainEntries G p s is)
+  pub between : plainEnd G p s is .left ≡ 0 → plainBook G p s is .spent ≡ 0
+  pub flying : plainEnd G p s is .left ≢ 0 → plainBook G p s is .spent + plainEnd G p s is .left ≡ due G p (plainBook G p s is)
+
+abbrev pub PlainMachine : Type 0
+PlainMachine = (G : Geometry) (p s : List ℕ) (is : List Pins) → 1 ≤ burst G → PlainHolds G p s is
+
+-- Every charge is 1 at least and the longest at most, of any word in any state; the paper's geometry is one of `geometryOk`.
+pub record Bounded : Type 0 where
+  pub fits : geometryOk paperGeometry ≡ true
+  pub positive : (G : Geometry) (w : ℕ) (q : Reference) → 1 ≤ charge G w q
+  pub charges : (G : Geometry) (w : ℕ) (q : Reference) → charge G w q ≤ longest G
