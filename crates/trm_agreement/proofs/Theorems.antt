@@ -13,7 +13,7 @@ use Rattle.trm_agreement.proofs.Laws.Bounds.{bounded}
 use Rattle.trm_agreement.proofs.Laws.Runs.{runs-are-runs}
 use Rattle.trm_agreement.proofs.Laws.Own.{own-answered}
 use Rattle.trm_agreement.proofs.Laws.Interrupts.{interrupt-rule, plain-clock}
-use Rattle.trm_agreement.proofs.Laws.Devices.{answers-hold}
+use Rattle.trm_agreement.proofs.Laws.Devices.{answers-hold, plain-devices}
 use Rattle.trm_agreement.proofs.Laws.Audit.{plain-machine}
 use Rattle.trm_agreement.proofs.Laws.Typed.{of-the-code}
 use Rattle.trm_agreement.proofs.Laws.Demand.{demand-3, every-geometry}
@@ -34,6 +34,7 @@ theorems =
       interrupt-rule = interrupt-rule;
       answers-hold = answers-hold;
       plain-clock = plain-clock;
+      plain-devices = plain-devices;
       plain-machine = plain-machine;
       bounded = bounded;
       calls-are-clocks = calls-are-clocks;

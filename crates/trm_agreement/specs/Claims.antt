@@ -28,7 +28,7 @@ use Rattle.trm_agreement.specs.Log.{clocksOf, entries, calls, logOf, clo
 use Rattle.trm_agreement.specs.Calls.{Call, runCall, feed, answer, runEnds, recordSeen, recordEngine, referenceEngine}
 use Rattle.trm_agreement.specs.Contracts.{ResetMet, ClockMet, RunMet}
 use Rattle.trm_agreement.specs.Demand.{Holds, Demand3}
-use Rattle.trm_agreement.specs.Plain.{InterruptRule, AnswersHold, PlainClock, Bounded, PlainMachine}
+use Rattle.trm_agreement.specs.Plain.{InterruptRule, AnswersHold, PlainClock, PlainDevices, Bounded, PlainMachine}
 
 -- What `Demand3` promises of the log of the calls, of the definitions that the contracts cite, for every geometry of `geometryOk`.
 abbrev pub EveryGeometry : Type 0
@@ -99,6 +99,7 @@ pub record Claims : Type 0 where
   pub interrupt-rule : InterruptRule
   pub answers-hold : AnswersHold
   pub plain-clock : (G : Geometry) (p : List ℕ) (q : Reference) (i : Pins) → PlainClock G p q i
+  pub plain-devices : PlainDevices
   pub plain-machine : PlainMachine
   pub bounded : Bounded
   pub calls-are-clocks : (G : Geometry) (p : List ℕ) (q : Reference) (cs : List Call) → CallsAreClocks G p q cs

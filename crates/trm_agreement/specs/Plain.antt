@@ -1,16 +1,17 @@
--- The claims of the plain machine alone: the rule and the answers that both machines share, one clock from any state, the greatest charge,
--- and any clocks from a reset, with line bytes and clock counts that no call would accept.
+-- The claims of the plain machine alone: the rule and the answers that both machines share, one clock and the devices of any clocks from
+-- any state, the greatest charge, and any clocks from a reset, with line bytes and clock counts that no call would accept.
 -- Paper: "The plain machine of demand 3 .."; "Each adds a clock; a held one adds a held clock and no more. With no clocks left it takes
 -- an interrupt by the rule above". Assumes nothing.
-use Prim.Native.Nat.{ℕ, _+_, _≤_}
+use Prim.Native.Nat.{ℕ, suc, _+_, _≤_}
 use mathlib.Core.Path.{_≡_}
 use mathlib.Core.Logic.{_≢_}
 use mathlib.Core.Bool.{true, false, cond, not, _&&_}
-use mathlib.Core.List.{List}
+use mathlib.Core.List.{List, [], _∷_}
+use lib.ListN.{length}
 use lib.Dec.{eqb}
 use Rattle.trm_reference.specs.Geometry.{Geometry, paperGeometry, geometryOk, burst}
 use Rattle.trm_reference.specs.Visible.{Visible, wordAt}
-use Rattle.trm_reference.specs.Access.{silent, answerOf}
+use Rattle.trm_reference.specs.Access.{toDevice, Answer, silent, answerOf}
 use Rattle.trm_reference.specs.Interrupt.{stalled, interruptChosen}
 use Rattle.trm_reference.specs.Trace.{Pins, clocks, endOf, outsOf}
 use Rattle.trm_reference.specs.Reference.{Reference, charge, carryOut, takeOff, referenceHeld, referenceInterrupt, referenceClock}
@@ -18,7 +19,7 @@ use Rattle.trm_reference.specs.Reference.{referenceReset}
 use Rattle.trm_agreement.specs.Log.{entries}
 use Rattle.trm_agreement.specs.Calls.{feed, answer, Line, referenceSeen, referenceEngine}
 use Rattle.trm_agreement.specs.Book.{interrupts, interruptTo, Book, opened, due, longest}
-use Rattle.trm_agreement.specs.Audit.{Answers, Audited, bookAt, accessesIn, deviceAnswers}
+use Rattle.trm_agreement.specs.Audit.{Answers, Audited, bookAt, deviceAnswers}
 
 -- The interrupt rule that both machines share is the one in bits, by which demand 3 judges them.
 abbrev pub InterruptRule : Type 0
@@ -45,6 +46,20 @@ pub record PlainClock (G : Geometry) (p : List ℕ) (q : Reference) (i : Pins) :
       → not (stalled (i .line)) && eqb (q .left) 0 && interrupts (q .visible .status) (i .line) ≡ false
       → (referenceClock G p q i .state .visible ≡ q .visible) × (referenceClock G p q i .state .memory ≡ q .memory)
 
+-- the device accesses of the words that these clocks carry out, each once, in their order, with its clock's input word
+unfoldable pub plainAccesses : Geometry → List ℕ → Reference → List Pins → List Answer
+plainAccesses G p q [] = []
+plainAccesses G p q (i ∷ is) =
+    cond (eqb (referenceClock G p q i .out .done) 1 && toDevice (wordAt p (q .visible .pc)) (q .visible) (length (q .memory)))
+    (answerOf (wordAt p (q .visible .pc)) (q .visible) (length (q .memory)) (i .input)
+    ∷ plainAccesses G p (referenceClock G p q i .state) is)
+    (plainAccesses G p (referenceClock G p q i .state) is)
+
+-- The answers of any clocks from any state that show a device are these accesses.
+abbrev pub PlainDevices : Type 0
+PlainDevices = (G : Geometry) (p : List ℕ) (q : Reference) (is : List Pins)
+    → deviceAnswers (outsOf (clocks (referenceClock G p) q is)) ≡ plainAccesses G p q is
+
 -- the entries of these clocks of the plain machine after a reset, its last state, and the book then
 abbrev pub plainEntries : Geometry → List ℕ → List ℕ → List Pins → List Line
 plainEntries G p s is = entries feed answer (referenceEngine G p) (clocks (referenceClock G p) (referenceReset s) is) is
@@ -55,17 +70,20 @@ plainEnd G p s is = endOf (referenceReset s) (clocks (referenceClock G p) (refer
 abbrev pub plainBook : Geometry → List ℕ → List ℕ → List Pins → Book
 plainBook G p s is = bookAt G p (opened (referenceSeen (referenceReset s))) (plainEntries G p s is)
 
--- Over any clocks from a reset, with line bytes that a call would refuse and past the greatest clock count too, and with any geometry
--- whose burst takes a clock: the audit, the devices, and that in flight what is spent and what is left are the charge.
+-- Over any clocks from a reset, with line bytes that a call would refuse and past the greatest clock count too, and with any geometry:
+-- clocks = held + charges of what finished + unheld clocks spent on the one in flight; what is spent and what is left are its charge; a
+-- clock that finishes an instruction completes its charge. If a burst takes a clock, so that its end is counted, the whole audit.
 pub record PlainHolds (G : Geometry) (p s : List ℕ) (is : List Pins) : Type 0 where
-  pub audited : Audited G p (opened (referenceSeen (referenceReset s))) (plainEntries G p s is)
-  pub devices : deviceAnswers (outsOf (clocks (referenceClock G p) (referenceReset s) is))
-      ≡ accessesIn G p (opened (referenceSeen (referenceReset s))) (plainEntries G p s is)
+  pub clocks : plainEnd G p s is .clocks ≡ plainBook G p s is .held + plainBook G p s is .charges + plainBook G p s is .spent
+  pub held : plainEnd G p s is .held ≡ plainBook G p s is .held
   pub between : plainEnd G p s is .left ≡ 0 → plainBook G p s is .spent ≡ 0
   pub flying : plainEnd G p s is .left ≢ 0 → plainBook G p s is .spent + plainEnd G p s is .left ≡ due G p (plainBook G p s is)
+  pub took : (i : Pins) → referenceClock G p (plainEnd G p s is) i .out .done ≡ 1
+      → suc (plainBook G p s is .spent) ≡ due G p (plainBook G p s is)
+  pub audited : 1 ≤ burst G → Audited G p (opened (referenceSeen (referenceReset s))) (plainEntries G p s is)
 
 abbrev pub PlainMachine : Type 0
-PlainMachine = (G : Geometry) (p s : List ℕ) (is : List Pins) → 1 ≤ burst G → PlainHolds G p s is
+PlainMachine = (G : Geometry) (p s : List ℕ) (is : List Pins) → PlainHolds G p s is
 
 -- Every charge is 1 at least and the longest at most, of any word in any state; the paper's geometry is one of `geometryOk`.
 pub record Bounded : Type 0 where

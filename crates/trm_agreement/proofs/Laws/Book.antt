@@ -49,7 +49,7 @@ abbrev pub bookOf : Reference → ℕ → ℕ → ℕ → Book
 bookOf q sp hd ch =
     record { seen = seenOf q; history = q .history; spent = sp; held = hd; charges = ch }
 
-module _ (G : Geometry) (pos : 0 < burst G) (p : List ℕ) where
+module _ (G : Geometry) (p : List ℕ) where
   abbrev wordFor : Reference → ℕ
   wordFor q = wordAt p (q .visible .pc)
 
@@ -94,7 +94,7 @@ module _ (G : Geometry) (pos : 0 < burst G) (p : List ℕ) where
     unfolding refillOver due charge missing misses evicting evicts
     refill-is = rw (tests q .through)
 
-    writeback-is : writebackOver G p (bookOf q sp hd ch) ≡ writes G pos (kindFor q) (missesFor q) (evictsFor q) sp
+    writeback-is : writebackOver G p (bookOf q sp hd ch) ≡ writes G (kindFor q) (missesFor q) (evictsFor q) sp
     unfolding writebackOver missing misses evicting evicts
     writeback-is = rw (tests q .through, tests q .off)
 
@@ -106,15 +106,15 @@ module _ (G : Geometry) (pos : 0 < burst G) (p : List ℕ) where
     pub clocks : q .clocks ≡ hd + ch + sp
     pub held : q .held ≡ hd
     pub refills : q .refills ≡ refillsIn G (q .history) + fills (isCached (kindFor q) && missesFor q) (charge G (wordFor q) q) sp
-    pub writebacks : q .writebacks ≡ writebacksIn G (q .history) + writes G pos (kindFor q) (missesFor q) (evictsFor q) sp
+    pub writebacks : 0 < burst G → q .writebacks ≡ writebacksIn G (q .history) + writes G (kindFor q) (missesFor q) (evictsFor q) sp
     pub wide : length (q .visible .regs) ≡ 16
 
-  pub balanced : (q : Reference) (sp hd ch : ℕ) → Kept q sp hd ch → Balanced G p (bookOf q sp hd ch)
-  balanced q sp hd ch k = record {
+  pub balanced : 0 < burst G → (q : Reference) (sp hd ch : ℕ) → Kept q sp hd ch → Balanced G p (bookOf q sp hd ch)
+  balanced pos q sp hd ch k = record {
     clocks = k .clocks;
     held = k .held;
     refills = k .refills ∙ ap (λ x. refillsIn G (q .history) + x) (sym (refill-is q sp hd ch));
-    writebacks = k .writebacks ∙ ap (λ x. writebacksIn G (q .history) + x) (sym (writeback-is q sp hd ch));
+    writebacks = k .writebacks pos ∙ ap (λ x. writebacksIn G (q .history) + x) (sym (writeback-is q sp hd ch));
     flight = λ n. rw (due-is q sp hd ch) (go (eqb (q .left) 0) refl n);
     short = rw (due-is q sp hd ch) (charge-bounded G (wordFor q) q);
   }
@@ -126,14 +126,14 @@ module _ (G : Geometry) (pos : 0 < burst G) (p : List ℕ) where
   -- with nothing spent no burst is over
   none-filled : (q : Reference) → fills (isCached (kindFor q) && missesFor q) (charge G (wordFor q) q) 0 ≡ 0
   none-filled q = rw (charge-is q)
-      (idle-fills G pos (kindFor q) (isStore (wordFor q)) (missesFor q) (evictsFor q) (dirtyLines G (q .history)))
+      (idle-fills G (kindFor q) (isStore (wordFor q)) (missesFor q) (evictsFor q) (dirtyLines G (q .history)))
 
-  none-written : (q : Reference) → writes G pos (kindFor q) (missesFor q) (evictsFor q) 0 ≡ 0
-  none-written q = idle-writes G pos (kindFor q) (missesFor q) (evictsFor q)
+  none-written : (q : Reference) → writes G (kindFor q) (missesFor q) (evictsFor q) 0 ≡ 0
+  none-written q = idle-writes G (kindFor q) (missesFor q) (evictsFor q)
 
   -- nothing in flight
   idle-kept : (q : Reference) (hd ch : ℕ) → q .left ≡ 0 → q .clocks ≡ hd + ch → q .held ≡ hd → q .refills ≡ refillsIn G (q .history)
-      → q .writebacks ≡ writebacksIn G (q .history) → length (q .visible .regs) ≡ 16 → Kept q 0 hd ch
+      → (0 < burst G → q .writebacks ≡ writebacksIn G (q .history)) → length (q .visible .regs) ≡ 16 → Kept q 0 hd ch
   idle-kept q hd ch z c h r w l = record {
     idle = λ _. refl;
     flying = λ n. absurd (n z);
@@ -141,7 +141,7 @@ module _ (G : Geometry) (pos : 0 < burst G) (p : List ℕ) where
     clocks = omega arith;
     held = h;
     refills = r ∙ sym (ap (λ x. refillsIn G (q .history) + x) (none-filled q) ∙ add-zero _);
-    writebacks = w ∙ sym (ap (λ x. writebacksIn G (q .history) + x) (none-written q) ∙ add-zero _);
+    writebacks = λ pos. w pos ∙ sym (ap (λ x. writebacksIn G (q .history) + x) (none-written q) ∙ add-zero _);
     wide = l;
   }
 
@@ -193,7 +193,7 @@ module _ (G : Geometry) (pos : 0 < burst G) (p : List ℕ) where
       kept = idle-kept (referenceInterrupt (interruptChosen (q .visible .status) (i .line)) q .state) hd (1 + ch) refl
           (let a = k .clocks in let b = k .idle z in omega arith) (k .held)
           (rw (k .idle z) at (k .refills) ∙ ap (λ x. refillsIn G (q .history) + x) (none-filled q) ∙ add-zero _)
-          (rw (k .idle z) at (k .writebacks) ∙ ap (λ x. writebacksIn G (q .history) + x) (none-written q) ∙ add-zero _)
+          (λ pos. rw (k .idle z) at (k .writebacks pos) ∙ ap (λ x. writebacksIn G (q .history) + x) (none-written q) ∙ add-zero _)
           (interrupted-regs (q .visible) (interruptChosen (q .visible .status) (i .line)) ∙ k .wide);
     }
 
@@ -218,7 +218,7 @@ module _ (G : Geometry) (pos : 0 < burst G) (p : List ℕ) where
         held = k .held;
         refills = ap₂ _+_ (k .refills) (refill-adds G (wordFor q) q n)
             ∙ (let f = spent-fills (isCached (kindFor q) && missesFor q) (charge G (wordFor q) q) sp n z s in omega arith);
-        writebacks = ap₂ _+_ (k .writebacks) (writeback-adds G (wordFor q) q n)
+        writebacks = λ pos. ap₂ _+_ (k .writebacks pos) (writeback-adds G (wordFor q) q n)
             ∙ (let f = spent-writes G pos (kindFor q) (isStore (wordFor q)) (missesFor q) (evictsFor q) (dirtyLines G (q .history)) sp n z
             (s ∙ charge-is q) in omega arith);
         wide = k .wide;
@@ -256,7 +256,7 @@ module _ (G : Geometry) (pos : 0 < burst G) (p : List ℕ) where
           (k .refills ∙ ap (λ x. refillsIn G (q .history) + x)
           (done-fills (isCached (kindFor q) && missesFor q) (charge G (wordFor q) q) sp s ∙ rw (← tests q .through))
           ∙ sym (joined-fills G (wordFor q) q))
-          (k .writebacks ∙ ap (λ x. writebacksIn G (q .history) + x)
+          (λ pos. k .writebacks pos ∙ ap (λ x. writebacksIn G (q .history) + x)
           (done-writes G pos (kindFor q) (isStore (wordFor q)) (missesFor q) (evictsFor q) (dirtyLines G (q .history)) sp (s ∙ charge-is q)
           ∙ rw (← tests q .through, ← tests q .off)) ∙ sym (joined-writes G (wordFor q) q))
           (execute-regs (wordFor q) (q .visible) _ ∙ k .wide);
@@ -294,4 +294,4 @@ module _ (G : Geometry) (pos : 0 < burst G) (p : List ℕ) where
 
   pub reset-kept : (s : List ℕ) → Kept (referenceReset s) 0 0 0
   unfolding referenceReset resetVisible refillsIn writebacksIn
-  reset-kept s = idle-kept (referenceReset s) 0 0 refl refl refl refl refl refl
+  reset-kept s = idle-kept (referenceReset s) 0 0 refl refl refl refl (λ _. refl) refl

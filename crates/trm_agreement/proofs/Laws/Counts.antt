@@ -92,7 +92,7 @@ module _ (b spent n dirty : ℕ) (pos : 0 < b) (e : suc spent + n ≡ 1 + b * di
           let short : spent % b + 1 < b = omega (arith, f, rest-left, low) in
           let g = div-eq-of-lt-le {k = spent / b} b {m = suc spent} (omega (arith, whole)) (omega (arith, whole, short)) in omega arith
 
-module _ (G : Geometry) (pos : 0 < burst G) where
+module _ (G : Geometry) where
   -- the write-backs of a word of a kind that are over
   abbrev pub writes : Kind → Bool → Bool → ℕ → ℕ
   writes k misses evicts spent =
@@ -121,36 +121,36 @@ module _ (G : Geometry) (pos : 0 < burst G) where
   idle-writes uncached mi ev = refl
   idle-writes clearing mi ev = zero-div (burst G)
 
-  pub spent-writes : (k : Kind) (store misses evicts : Bool) (dirty spent n : ℕ) → n ≢ 0
+  pub spent-writes : 0 < burst G → (k : Kind) (store misses evicts : Bool) (dirty spent n : ℕ) → n ≢ 0
       → suc spent + n ≡ chargeOfKind G k store misses evicts dirty
       → writes k misses evicts spent
       + cond (isCached k) (cond (misses && evicts && eqb n (1 + burst G)) 1 0)
       (cond (isClearing k) (cond (eqb ((n - 1) % burst G) 0) 1 0) 0)
       ≡ writes k misses evicts (suc spent)
   unfolding chargeOfKind missCharge
-  spent-writes quick st mi ev d sp n z e = refl
-  spent-writes second st mi ev d sp n z e = refl
-  spent-writes longer st mi ev d sp n z e = refl
-  spent-writes device st mi ev d sp n z e = refl
-  spent-writes cached st true true d sp n z e = access-writes (burst G) sp n e
-  spent-writes cached st true false d sp n z e = refl
-  spent-writes cached st false ev d sp n z e = refl
-  spent-writes uncached st mi ev d sp n z e = refl
-  spent-writes clearing st mi ev d sp n z e = emptying-writes (burst G) sp n d pos e z
+  spent-writes pos quick st mi ev d sp n z e = refl
+  spent-writes pos second st mi ev d sp n z e = refl
+  spent-writes pos longer st mi ev d sp n z e = refl
+  spent-writes pos device st mi ev d sp n z e = refl
+  spent-writes pos cached st true true d sp n z e = access-writes (burst G) sp n e
+  spent-writes pos cached st true false d sp n z e = refl
+  spent-writes pos cached st false ev d sp n z e = refl
+  spent-writes pos uncached st mi ev d sp n z e = refl
+  spent-writes pos clearing st mi ev d sp n z e = emptying-writes (burst G) sp n d pos e z
 
-  pub done-writes : (k : Kind) (store misses evicts : Bool) (dirty spent : ℕ)
+  pub done-writes : 0 < burst G → (k : Kind) (store misses evicts : Bool) (dirty spent : ℕ)
       → suc spent ≡ chargeOfKind G k store misses evicts dirty
       → writes k misses evicts spent ≡ cond (isCached k) (cond (misses && evicts) 1 0) (cond (isClearing k) dirty 0)
   unfolding chargeOfKind missCharge
-  done-writes quick st mi ev d sp e = refl
-  done-writes second st mi ev d sp e = refl
-  done-writes longer st mi ev d sp e = refl
-  done-writes device st mi ev d sp e = refl
-  done-writes cached st true true d sp e = rw (le-leb (1 + burst G) sp (omega arith))
-  done-writes cached st true false d sp e = refl
-  done-writes cached st false ev d sp e = refl
-  done-writes uncached st mi ev d sp e = refl
-  done-writes clearing st mi ev d sp e = div-eq-of-eq-mul-right {n = burst G} {m = sp} {k = d} pos (omega arith)
+  done-writes pos quick st mi ev d sp e = refl
+  done-writes pos second st mi ev d sp e = refl
+  done-writes pos longer st mi ev d sp e = refl
+  done-writes pos device st mi ev d sp e = refl
+  done-writes pos cached st true true d sp e = rw (le-leb (1 + burst G) sp (omega arith))
+  done-writes pos cached st true false d sp e = refl
+  done-writes pos cached st false ev d sp e = refl
+  done-writes pos uncached st mi ev d sp e = refl
+  done-writes pos clearing st mi ev d sp e = div-eq-of-eq-mul-right {n = burst G} {m = sp} {k = d} pos (omega arith)
 
 -- what joins the history, and what the reference machine counts
 module _ (G : Geometry) (w : ℕ) (q : Reference) where
