@@ -1,7 +1,7 @@
 -- The log of the reference machine is in order: every entry is audited, the book is balanced after it, and the devices are as it says.
 -- Idea: one clock keeps the book; then the list of clocks, and the list of calls; of an audited log the rest follows.
 -- Assumes nothing.
---   clocks-hold   the plain machine over any clocks        of-log   any log that is the reference machine's
+--   plain-machine   the plain machine over any clocks        of-log   any log that is the reference machine's
 use Prim.Native.Nat.{ℕ, suc, _<_}
 use mathlib.Core.Path.{_≡_, refl, sym, ap, ap₂, _∙_, subst}
 use mathlib.Core.Logic.{_≢_}

@@ -1,7 +1,7 @@
 -- What the calls' own `ensures` say, at the lists that the lent slices hold; one form for every function that makes a call.
 -- Idea: the `ensures` is a promise of trm or trm_calls at the references; the lists they hold are put in their place.
 -- Assumes nothing.
---   reset-gives    the record that an accepted reset returns        facts    what a call handed back, by whichever function
+--   starts, fails    the record that an accepted or a refused reset returns        facts    what a call handed back, by whichever function
 use Prim.Native.Nat.{ℕ}
 use mathlib.Core.Path.{_≡_, sym, ap, _∙_}
 use mathlib.Core.Logic.{_≢_}

@@ -1,7 +1,7 @@
 -- The interrupt rule in bits, and one clock of the plain machine from any state.
 -- Idea: the tests decide each case.
 -- Assumes nothing.
---   interrupt-rule    named-in-bits, goes-to   what it gives        plain-clock
+--   interrupt-rule    taken-in-bits, goes-to   what it gives        plain-clock
 use Prim.Native.Nat.{ℕ, _-_}
 use mathlib.Core.Path.{_≡_, refl, _∙_}
 use mathlib.Core.Logic.{_≢_}
