@@ -225,7 +225,7 @@ trm_decode_answer trm_decode(uint32_t word);
 trm_encode_answer trm_encode(trm_instruction instruction);
 
 /* Whether an image can be run with a store of so many words: its first fault, record after record. Refused: 1, 2, 3, 6; and 4, for a
- * length that no store has, where no record is at fault. */
+ * length that no store has, at 0, once the first record has passed rows 1, 2 and 3. */
 trm_image_answer trm_image_check(const uint8_t *image, size_t image_bytes, size_t store_words);
 
 /* The payload of the record that begins at byte `at`, as a part of the image: where it begins and how many bytes it has; what lies past

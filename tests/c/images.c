@@ -89,6 +89,34 @@ static void test_records(void)
     }
 }
 
+/* A store of 63 words: 4 at 0, before row 6 and every later record, but after rows 1, 2 and 3 of the first record. */
+static void test_no_store(void)
+{
+    static const struct {
+        uint8_t kinds[2];
+        size_t lengths[2];
+        size_t at;
+        uint8_t byte;
+        uint32_t number;
+    } rows[] = {
+        {{1, 3}, {4, 9}, 20, 8, TRM_REFUSED_STORE},   /* a line byte of 8 */
+        {{1, 3}, {4, 9}, 16, 0, TRM_REFUSED_STORE},   /* a count of 0 */
+        {{1, 3}, {4, 9}, 10, 10, TRM_REFUSED_STORE},  /* a record cut short */
+        {{1, 1}, {4, 4}, 0, 4, TRM_REFUSED_STORE},    /* kind 1 again */
+        {{1, 2}, {4, 260}, 0, 4, TRM_REFUSED_STORE},  /* 65 words of data */
+        {{1, 3}, {4, 9}, 0, 5, TRM_REFUSED_IMAGE},    /* a program of 5 bytes */
+        {{4, 3}, {4, 9}, 0, 4, TRM_REFUSED_KIND},     /* an unknown kind */
+        {{1, 3}, {4, 9}, 8, 4, TRM_REFUSED_PROGRAM},  /* the word 40000H */
+    };
+    static uint8_t image[300];
+    for (size_t i = 0; i < sizeof rows / sizeof *rows; i++) {
+        size_t bytes = put(image, 0, rows[i].kinds[0], rows[i].lengths[0]);
+        bytes = put(image, bytes, rows[i].kinds[1], rows[i].lengths[1]);
+        image[rows[i].at] = rows[i].byte;
+        expect_image(image, bytes, 63, rows[i].number, 0, "an image for a store of 63 words, row", i);
+    }
+}
+
 static void test_limits(void)
 {
     static uint8_t zeros[65537];
@@ -124,5 +152,6 @@ void test_images(void)
     test_cut();
     test_spoiled();
     test_records();
+    test_no_store();
     test_limits();
 }

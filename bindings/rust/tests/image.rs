@@ -69,7 +69,8 @@ fn payloads_are_parts_of_the_image() {
 fn images_at_their_edges() {
     let full = [&PROGRAM[..], &record(2, &[9; 256])].concat();
     assert_eq!(Image::read(&full, 64).unwrap().machine().store(), [0x0909_0909; 64]);
-    assert_eq!(check(&full, 32), Err(ImageFault { refusal: Refusal::Image, at: 18 }));
+    let over = [&PROGRAM[..], &record(2, &[9; 260])].concat();
+    assert_eq!(check(&over, 64), Err(ImageFault { refusal: Refusal::Image, at: 18 }));
     let image = Image::read(&PROGRAM, 32768).unwrap();
     assert_eq!((image.data(), image.runs(), image.machine().store().len()), (&[][..], &[][..], 32768));
 }
@@ -99,4 +100,13 @@ fn faults_of_program_and_store() {
         let fault = ImageFault { refusal: Refusal::Store, at: 0 };
         assert_eq!((check(&PROGRAM, words), Image::read(&PROGRAM, words)), (Err(fault), Err(fault)), "{words} words");
     }
+    // before row 6 and every later record, after rows 1, 2 and 3 of the first
+    let store = Err(ImageFault { refusal: Refusal::Store, at: 0 });
+    for more in [&run_of(1, 8, 0)[..], &FORTY[..14], &PROGRAM, &record(2, &[9; 260])] {
+        assert_eq!(check(&[&PROGRAM[..], more].concat(), 63), store);
+    }
+    let first = |refusal| Err(ImageFault { refusal, at: 0 });
+    assert_eq!(check(&PROGRAM[..17], 63), first(Refusal::Image));
+    assert_eq!(check(&FORTY, 63), first(Refusal::Kind));
+    assert_eq!(check(&word, 63), first(Refusal::Program));
 }

@@ -5,7 +5,7 @@ ghost use mathlib.Core.Path.{_≡_};
 ghost use Rattle.trm.specs.Promises.{ImageNumbered, payloadStart, PayloadPart};
 use trm_image::inner::number;
 
-// `at` is the byte where the record at fault begins; 0 if there is none: accepted, row 4, too long or empty.
+// `at` is the byte where the record at fault begins; 0 if there is none: accepted, too long or empty.
 #[repr(C)]
 pub struct ImageAnswer {
     pub number: u32,

@@ -104,11 +104,21 @@ cases =
     -- faults in two records, the earlier record counts: 3 before 1, 6 before 1
     ∷ row 2048 (word 0 0 4 0 ++ run 0 0 0 0) 3 0
     ∷ row 2048 (program ++ run 1 0 0 8 ++ 0 ∷ []) 6 10
-    -- no such store: 63, 65,536, 100 words; after every other fault
+    -- no such store: 63, 65,536, 100 words
     ∷ row 63 program 4 0
     ∷ row 65536 program 4 0
     ∷ row 100 program 4 0
-    ∷ row 63 (program ++ run 1 0 0 8) 6 10
+    -- no such store, after rows 1, 2 and 3 of the first record: over 65,536 bytes, empty, kind 1 of no bytes, an unknown kind, a program
+    -- word 40000H
+    ∷ row 63 (replicate 65537 0) 1 0
+    ∷ row 63 [] 2 0
+    ∷ row 63 (0 ∷ 0 ∷ 0 ∷ 0 ∷ 1 ∷ 0 ∷ []) 1 0
+    ∷ row 63 (0 ∷ 0 ∷ 0 ∷ 0 ∷ 4 ∷ 0 ∷ []) 2 0
+    ∷ row 63 (word 0 0 4 0) 3 0
+    -- no such store, before row 6 and before every later record: a line byte of 8, a record cut short, kind 1 again
+    ∷ row 63 (program ++ run 1 0 0 8) 4 0
+    ∷ row 63 (program ++ 0 ∷ []) 4 0
+    ∷ row 63 (program ++ program) 4 0
     ∷ []
 
 unfoldable pub AllHold : List Case → Type 0

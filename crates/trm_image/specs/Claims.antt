@@ -34,13 +34,13 @@ pub record FirstFault (n : ℕ) (s : List ℕ) (number at : ℕ) : Type 0 where
   pub faultless : Faultless n s 0 before
   pub fault : faultAt n s (lastKind s 0 before) at ≡ number
 
--- Why an image is refused: it is too long, or empty, or has a first fault, or is for a store that there is not.
+-- Why an image is refused: it is too long, or empty, or has a first fault. For a store that there is not, that is the first record's, by
+-- row 1, 2, 3 or 4: "checks go down the table", so no row 6 and no later record comes before 4.
 pub data Why (n : ℕ) (s : List ℕ) (number at : ℕ) : Type 0 where
   too-long : 65536 < length s → number ≡ 1 → at ≡ 0 → Why n s number at
   empty : s ≡ [] → number ≡ 2 → at ≡ 0 → Why n s number at
-  faulty : length s ≤ 65536 → FirstFault n s number at → Why n s number at
-  no-store : length s ≤ 65536 → 0 < length s → Faultless n s 0 (recordsOf s) → storeLengthOk n ≡ false → number ≡ 4 → at ≡ 0
-      → Why n s number at
+  faulty : length s ≤ 65536 → storeLengthOk n ≡ true → FirstFault n s number at → Why n s number at
+  no-store : length s ≤ 65536 → storeLengthOk n ≡ false → FirstFault n s number at → number ≤ 4 → at ≡ 0 → Why n s number at
 
 abbrev pub RefusedFirst : Type 0
 RefusedFirst = (n : ℕ) (s : List ℕ) → imageFault n s .number ≢ 0 → Why n s (imageFault n s .number) (imageFault n s .at)

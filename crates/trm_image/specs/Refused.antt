@@ -1,4 +1,4 @@
--- The refusal of an image: the first fault, as its number and the byte where its record begins; 0 at 0 means none, 4 has no record.
+-- The refusal of an image: the first fault, as its number and the byte where its record begins; 0 at 0 means none.
 -- Paper: "Where calls are turned down", rows 1, 2, 3, 4, 6; "Records are checked one after another, each down the table, and the first
 -- fault counts"; "(0 if too long or empty)". Assumes nothing. n is the store's length in words.
 --   faultAt n s before at   the row that the record at `at` fails, the kind before it being `before`, 0 for none
@@ -52,6 +52,7 @@ wordWrong s at = eqb (kindAt s at) 1 && not (allAtMost 0x3FFFF (wordsAt s (at + 
 unfoldable pub lineWrong : List ℕ → ℕ → Bool
 lineWrong s at = eqb (kindAt s at) 3 && ltb 7 (lineAt s at)
 
+-- 4: "length no power of two in 64–32,768", for a reader that is told a length that no store has; it falls on the first record
 unfoldable pub faultAt : ℕ → List ℕ → ℕ → ℕ → ℕ
 faultAt n s before at =
     cond (cutShort s at) 1
@@ -59,7 +60,8 @@ faultAt n s before at =
     (cond (countWrong s at) 1
     (cond (not (inOrder before (kindAt s at))) 2
     (cond (wordWrong s at) 3
-    (cond (lineWrong s at) 6 0)))))
+    (cond (not (storeLengthOk n)) 4
+    (cond (lineWrong s at) 6 0))))))
 
 pub record Refused : Type 0 where
   pub number : ℕ
@@ -73,13 +75,9 @@ firstFault n s before (at ∷ more) =
     (firstFault n s (kindAt s at) more)
     (record { number = faultAt n s before at; at = at })
 
--- 4, for a reader that is told a length that no store has, when no record is at fault
-unfoldable pub storeFault : ℕ → Refused
-storeFault n = cond (storeLengthOk n) (record { number = 0; at = 0 }) (record { number = 4; at = 0 })
-
 -- "over 65,536 bytes"; "kind 1 missing" where there is no record; then record after record
 unfoldable pub imageFault : ℕ → List ℕ → Refused
 imageFault n s =
     cond (ltb 65536 (length s)) (record { number = 1; at = 0 })
     (cond (eqb (length s) 0) (record { number = 2; at = 0 })
-    (cond (eqb (firstFault n s 0 (recordsOf s) .number) 0) (storeFault n) (firstFault n s 0 (recordsOf s))))
+    (firstFault n s 0 (recordsOf s)))

@@ -10,7 +10,7 @@ pub enum Fault {
     Lines,
 }
 
-// A fault, and the byte where its record begins, "0 if too long or empty"; 0 also for row 4 and where there is no fault.
+// A fault, and the byte where its record begins, "0 if too long or empty"; 0 also where there is no fault.
 pub struct Checked {
     pub fault: Fault,
     pub at: usize,

@@ -54,12 +54,6 @@ pub fn check(image: &[u8], words: usize) -> Checked
         before = bytes::half_at(image, at + 4);
         at = at + 6 + bytes::word_at(image, at) as usize;
     }
-    if !trm_word::inner::address::store_length_ok(words as u64) {
-        return Checked {
-            fault: Fault::Store,
-            at: 0,
-        };
-    }
     Checked {
         fault: Fault::Accepted,
         at: 0,

@@ -9,12 +9,12 @@ use native.Mathlib.Omega.{arith}
 use native.Mathlib.Decide.{decLt, ℕ-discrete}
 use lib.ListN.{length, drop, List·getD-eq-default}
 use lib.Dec.{eqb, ltb}
-use borrow.Author.Tests.{ltb-false, eqb-true, eqb-false, le-leb}
+use borrow.Author.Tests.{ltb-false, eqb-false, le-leb}
 use Rattle.trm_core.specs.Refusals.{programOk}
 use Rattle.trm_word.specs.Address.{storeLengthOk}
 use Rattle.trm_laws.proofs.Tests.{_&t_}
 use Rattle.trm_image.specs.Records.{lengthAt, kindAt, wordsAt, begins, recordsOf}
-use Rattle.trm_image.specs.Refused.{Refused, firstFault, storeFault, imageFault}
+use Rattle.trm_image.specs.Refused.{Refused, firstFault, imageFault}
 use Rattle.trm_image.specs.Meaning.{payloadWords, wordsIn, runsIn, imageOf}
 use Rattle.trm_image.specs.Runs.{Runs}
 use Rattle.trm_image.proofs.Laws.Walk.{next}
@@ -28,32 +28,21 @@ record Passed (n : ℕ) (s : List ℕ) : Type 0 where
   some : 0 < length s
   small : length s ≤ 65536
   free : firstFault n s 0 (begins 0 0 (drop 0 s)) .number ≡ 0
-  store : storeLengthOk n ≡ true
 
 not-met : (t : Bool) (a b : Refused) → eqb (a .number) 0 ≡ false → cond t a b .number ≡ 0 → (t ≡ false) × (b .number ≡ 0)
 not-met true a b z e = absurd (eqb-false (a .number) 0 z e)
 not-met false a b z e = (refl, e)
 
-no-fault : (t : Bool) (a b : Refused) → eqb (b .number) 0 ≡ t → cond t a b .number ≡ 0 → (b .number ≡ 0) × (a .number ≡ 0)
-no-fault true a b t e = (eqb-true (b .number) 0 t, e)
-no-fault false a b t e = absurd (eqb-false (b .number) 0 t e)
-
-store-free : (t : Bool) → cond {A = Refused} t (record { number = 0; at = 0 }) (record { number = 4; at = 0 }) .number ≡ 0 → t ≡ true
-store-free true e = refl
-store-free false e = absurd (omega (arith, e))
-
 image-passed : (n : ℕ) (s : List ℕ) → imageFault n s .number ≡ 0 → Passed n s
-unfolding imageFault storeFault recordsOf
+unfolding imageFault recordsOf
 image-passed n s e =
     let a = not-met (ltb 65536 (length s)) (record { number = 1; at = 0 }) _ refl e in
     let b = not-met (eqb (length s) 0) (record { number = 2; at = 0 }) _ refl (a .1) in
-    let c = no-fault (eqb (firstFault n s 0 (recordsOf s) .number) 0) (storeFault n) (firstFault n s 0 (recordsOf s)) refl (b .1) in
     let z : length s ≡ 0 → ⊥ = eqb-false (length s) 0 (b .0) in
     record {
       some = omega arith;
       small = ltb-false 65536 (length s) (a .0);
-      free = c .0;
-      store = store-free (storeLengthOk n) (c .1);
+      free = b .1;
     }
 
 pub length-wordsAt : (s : List ℕ) (at k : ℕ) → length (wordsAt s at k) ≡ k
@@ -231,7 +220,7 @@ accepted-head n s e =
       long = q .long;
       fours = q .fours;
       is = go p (ℕ-discrete (kindAt s (6 + lengthAt s 0)) 2);
-      store = p .store;
+      store = head-clean n s p .store;
     }
   where
     go : Passed n s → Dec (kindAt s (6 + lengthAt s 0) ≡ 2) → imageOf s .program ≡ payloadWords s 0

@@ -8,6 +8,7 @@ use mathlib.Core.List.{List}
 use native.Mathlib.Omega.{arith}
 use lib.Dec.{eqb, ltb}
 use borrow.Author.Tests.{ltb-false, eqb-true, eqb-false, not-true, not-false}
+use Rattle.trm_word.specs.Address.{storeLengthOk}
 use Rattle.trm_core.specs.Refusals.{allAtMost}
 use Rattle.trm_laws.proofs.Tests.{clash}
 use Rattle.trm_image.specs.Records.{lengthAt, kindAt, wordsAt}
@@ -28,6 +29,7 @@ pub record Clean (n : ℕ) (s : List ℕ) (before at : ℕ) : Type 0 where
   pub count : countWrong s at ≡ false
   pub order : inOrder before (kindAt s at) ≡ true
   pub word : wordWrong s at ≡ false
+  pub store : storeLengthOk n ≡ true
   pub line : lineWrong s at ≡ false
 
 pub clean : (n : ℕ) (s : List ℕ) (before at : ℕ) → eqb (faultAt n s before at) 0 ≡ true → Clean n s before at
@@ -38,15 +40,32 @@ clean n s before at t =
     let c = passed (countWrong s at) 1 _ refl (b .1) in
     let d = passed (not (inOrder before (kindAt s at))) 2 _ refl (c .1) in
     let e = passed (wordWrong s at) 3 _ refl (d .1) in
-    let f = passed (lineWrong s at) 6 _ refl (e .1) in
+    let f = passed (not (storeLengthOk n)) 4 _ refl (e .1) in
+    let g = passed (lineWrong s at) 6 _ refl (f .1) in
     record {
       whole = a .0;
       length = b .0;
       count = c .0;
       order = not-false (inOrder before (kindAt s at)) (d .0);
       word = e .0;
-      line = f .0;
+      store = not-false (storeLengthOk n) (f .0);
+      line = g .0;
     }
+
+-- where there is no such store, a record fails row 4 or a row before it
+down-to : (t : Bool) (row x : ℕ) → 1 ≤ row → row ≤ 4 → (1 ≤ x) × (x ≤ 4) → (1 ≤ cond t row x) × (cond t row x ≤ 4)
+down-to true row x a b h = (a, b)
+down-to false row x a b h = h
+
+pub no-store-fault : (n : ℕ) (s : List ℕ) (before at : ℕ) → storeLengthOk n ≡ false
+    → (1 ≤ faultAt n s before at) × (faultAt n s before at ≤ 4)
+unfolding faultAt
+no-store-fault n s before at z =
+    down-to (cutShort s at) 1 _ (omega arith) (omega arith)
+    (down-to (lengthWrong n (kindAt s at) (lengthAt s at)) 1 _ (omega arith) (omega arith)
+    (down-to (countWrong s at) 1 _ (omega arith) (omega arith)
+    (down-to (not (inOrder before (kindAt s at))) 2 _ (omega arith) (omega arith)
+    (down-to (wordWrong s at) 3 _ (omega arith) (omega arith) (rw z (omega arith, omega arith))))))
 
 -- the kind of a record in order, and of the one before it
 pub data Order (before kind : ℕ) : Type 0 where

@@ -13,7 +13,7 @@ use Rattle.trm_core.specs.Refusals.{allAtMost, programOk}
 use Rattle.trm_word.specs.Address.{storeLengthOk}
 use Rattle.trm_laws.proofs.Tests.{both, all4}
 use Rattle.trm_image.specs.Records.{lengthAt, kindAt, begins, recordsOf}
-use Rattle.trm_image.specs.Refused.{faultAt, firstFault, storeFault, imageFault}
+use Rattle.trm_image.specs.Refused.{faultAt, firstFault, imageFault}
 use Rattle.trm_image.specs.Meaning.{Run, Image, runAt, payloadWords, wordsIn, runsIn, imageOf}
 use Rattle.trm_image.specs.Written.{wordBytes, recordBytes, runBytes, imageBytes, runsOk}
 use Rattle.trm_image.specs.Claims.{WrittenAccepted}
@@ -55,12 +55,12 @@ module _ (n : ℕ) (s : List ℕ) (before at : ℕ) where
         runs = rw (e, is, more .runs);
       }
 
-module _ (n : ℕ) (s : List ℕ) (small : length s ≤ 65536) where
+module _ (n : ℕ) (legal : storeLengthOk n ≡ true) (s : List ℕ) (small : length s ≤ 65536) where
   run-read : (before at : ℕ) (r : Run) (rs : List Run) (rest : List ℕ) → eqb before 0 ≡ false → Bounds r
       → Here s at 3 (runPayload r) rest → Read n s 3 (at + 6 + lengthAt s at) [] [] rs → Read n s before at [] [] (r ∷ rs)
   run-read before at r rs rest z b h more =
-      rw (run-back n s at r rest h b) at
-      (read-more n s before at 3 [] [] rs (let w = h .whole in omega (arith, w)) (h .kind) (run-unfaulted n s at r rest h b before z)
+      rw (run-back n legal s at r rest h b) at
+      (read-more n s before at 3 [] [] rs (let w = h .whole in omega (arith, w)) (h .kind) (run-unfaulted n legal s at r rest h b before z)
       more)
 
   runs-read : (rs : List Run) (before at : ℕ) → eqb before 0 ≡ false → runsOk rs ≡ true → drop at s ≡ runBytes rs
@@ -94,7 +94,7 @@ module _ (n : ℕ) (s : List ℕ) (small : length s ≤ 65536) where
       let h = here s at 2 (wordBytes ws) (runBytes rs) small (omega arith) e in
       let w = h .whole in
       rw (words-read s at 2 ws (runBytes rs) h words, append-nil ws) at
-      (read-more n s 1 at 2 [] [] rs (omega (arith, w)) (h .kind) (first-unfaulted n s at ws (runBytes rs) h most)
+      (read-more n s 1 at 2 [] [] rs (omega (arith, w)) (h .kind) (first-unfaulted n legal s at ws (runBytes rs) h most)
       (runs-read rs 2 (at + 6 + lengthAt s at) refl ok (h .after)))
 
   -- a program, then the rest
@@ -102,27 +102,27 @@ module _ (n : ℕ) (s : List ℕ) (small : length s ≤ 65536) where
       → Read n s 1 (6 + lengthAt s 0) [] ws rs → Read n s 0 0 p ws rs
   head-read p ws rest rs ok h more =
       let w = h .whole in
-      let u = program-unfaulted n s p rest h ok in
+      let u = program-unfaulted n legal s p rest h ok in
       rw (u .1, append-nil p) at (read-more n s 0 0 1 [] ws rs (omega (arith, w)) (h .kind) (u .0) more)
 
   -- the whole image
-  all-read : storeLengthOk n ≡ true → 0 < length s → (p ws : List ℕ) (rs : List Run) → Read n s 0 0 p ws rs
+  all-read : 0 < length s → (p ws : List ℕ) (rs : List Run) → Read n s 0 0 p ws rs
       → (imageFault n s ≡ record { number = 0; at = 0 }) × (imageOf s ≡ record { program = p; first = ws; runs = rs })
-  unfolding recordsOf storeFault imageOf
-  all-read store some p ws rs x =
+  unfolding recordsOf imageOf
+  all-read some p ws rs x =
       let z : length s ≡ 0 → ⊥ = λ e. omega (arith, e, some) in (
-        image-read n s (le-ltb 65536 (length s) small) (ne-eqb (length s) 0 z) (x .free) ∙ rw store,
+        image-read n s (le-ltb 65536 (length s) small) (ne-eqb (length s) 0 z) ∙ x .free,
         rw (x .program, x .first, x .runs),
       )
 
-  read-back : (I : Image) (rest : List ℕ) → storeLengthOk n ≡ true → programOk (I .program) ≡ true
+  read-back : (I : Image) (rest : List ℕ) → programOk (I .program) ≡ true
       → s ≡ recordBytes 1 (wordBytes (I .program)) ++ rest
       → (drop (6 + lengthAt s 0) s ≡ rest → Read n s 1 (6 + lengthAt s 0) [] (I .first) (I .runs))
       → (imageFault n s ≡ record { number = 0; at = 0 }) × (imageOf s ≡ I)
-  read-back I rest store ok e more =
+  read-back I rest ok e more =
       let h = here s 0 1 (wordBytes (I .program)) rest small (omega arith) e in
       let w = h .whole in
-      all-read store (omega (arith, w)) (I .program) (I .first) (I .runs)
+      all-read (omega (arith, w)) (I .program) (I .first) (I .runs)
       (head-read (I .program) (I .first) rest (I .runs) ok h (more (h .after)))
 
 pub written-accepted : WrittenAccepted
@@ -131,12 +131,12 @@ written-accepted n true I store m none small =
     let A = recordBytes 1 (wordBytes (I .program)) in
     let B = recordBytes 2 (wordBytes (I .first)) in
     let s = imageBytes true I in
-    read-back n s small I (B ++ runBytes (I .runs)) store (m .program)
+    read-back n store s small I (B ++ runBytes (I .runs)) (m .program)
     (append-assoc A B (runBytes (I .runs)))
-    (λ e. second-read n s small (I .first) (I .runs) (6 + lengthAt s 0) (m .first) (m .words) (m .runs) e)
+    (λ e. second-read n store s small (I .first) (I .runs) (6 + lengthAt s 0) (m .first) (m .words) (m .runs) e)
 written-accepted n false I store m none small =
     let A = recordBytes 1 (wordBytes (I .program)) in
     let s = imageBytes false I in
-    read-back n s small I (runBytes (I .runs)) store (m .program)
+    read-back n store s small I (runBytes (I .runs)) (m .program)
     (ap (λ t. t ++ runBytes (I .runs)) (append-nil A))
-    (λ e. rw (none refl) (runs-read n s small (I .runs) 1 (6 + lengthAt s 0) refl (m .runs) e))
+    (λ e. rw (none refl) (runs-read n store s small (I .runs) 1 (6 + lengthAt s 0) refl (m .runs) e))

@@ -10,14 +10,14 @@ use Rattle.trm_core.specs.Refusals.{allAtMost}
 use Rattle.trm_laws.proofs.Table.{same, test, test-true}
 use Rattle.trm_image.specs.Records.{wordsAt, begins, recordsOf}
 use Rattle.trm_image.specs.Refused.{cutShort, lengthWrong, countWrong, inOrder, wordWrong, lineWrong, faultAt, firstFault}
-use Rattle.trm_image.specs.Refused.{storeFault, imageFault}
+use Rattle.trm_image.specs.Refused.{imageFault}
 use Rattle.trm_image.specs.Cases.{Case, cases, AllHold, CasesHold}
 
 outcome : Case → List ℕ
 outcome c = imageFault (c .words) (c .bytes) .number ∷ imageFault (c .words) (c .bytes) .at ∷ []
 
 pub cases-hold : CasesHold
-unfolding cases AllHold outcome test same imageFault storeFault firstFault faultAt lineWrong wordWrong inOrder countWrong lengthWrong
+unfolding cases AllHold outcome test same imageFault firstFault faultAt lineWrong wordWrong inOrder countWrong lengthWrong
     cutShort recordsOf begins wordsAt allAtMost storeLengthOk
 cases-hold =
     test-true outcome (λ c. c .number ∷ c .at ∷ []) AllHold tt

@@ -9,6 +9,7 @@ use native.Mathlib.Omega.{arith}
 use lib.ListN.{length, drop}
 use lib.Dec.{eqb, leb}
 use borrow.Author.Tests.{leb-true, le-ltb, ne-eqb, eq-eqb}
+use Rattle.trm_word.specs.Address.{storeLengthOk}
 use Rattle.trm_core.specs.Refusals.{allAtMost, programOk}
 use Rattle.trm_laws.proofs.Tests.{all3}
 use Rattle.trm_image.specs.Records.{lengthAt, wordsAt}
@@ -22,7 +23,7 @@ use Rattle.trm_image.proofs.Laws.Readback.{Here, further, byte-back, le
 
 pub unfaulted : (n : ℕ) (s : List ℕ) (before at : ℕ) → Clean n s before at → faultAt n s before at ≡ 0
 unfolding faultAt
-unfaulted n s before at c = rw (c .whole, c .length, c .count, c .order, c .word, c .line)
+unfaulted n s before at c = rw (c .whole, c .length, c .count, c .order, c .word, c .store, c .line)
 
 not-cut : (s : List ℕ) (at : ℕ) → at + 6 + lengthAt s at ≤ length s → cutShort s at ≡ false
 unfolding cutShort
@@ -43,7 +44,7 @@ module _ (s : List ℕ) (at k : ℕ) (ws rest : List ℕ) (h : Here s at k (word
   pub words-read : allAtMost 4294967295 ws ≡ true → payloadWords s at ≡ ws
   words-read ok = ap (wordsAt s (at + 6)) words-count ∙ words-back s ws rest (at + 6) ok (h .inner)
 
-module _ (n : ℕ) (s : List ℕ) (p rest : List ℕ) (h : Here s 0 1 (wordBytes p) rest) where
+module _ (n : ℕ) (legal : storeLengthOk n ≡ true) (s : List ℕ) (p rest : List ℕ) (h : Here s 0 1 (wordBytes p) rest) where
   pub program-read : allAtMost 0x3FFFF p ≡ true → payloadWords s 0 ≡ p
   program-read ok = words-read s 0 1 p rest h (at-most-more 0x3FFFF 4294967295 p (omega arith) ok)
 
@@ -63,6 +64,7 @@ module _ (n : ℕ) (s : List ℕ) (p rest : List ℕ) (h : Here s 0 1 (wordBytes
         count = rw (h .kind);
         order = rw (h .kind);
         word = rw (h .kind, program-read ok, ok);
+        store = legal;
         line = rw (h .kind);
       }
 
@@ -73,7 +75,7 @@ module _ (n : ℕ) (s : List ℕ) (p rest : List ℕ) (h : Here s 0 1 (wordBytes
       (λ a b c.
       (unfaulted n s 0 0 (program-clean (leb-true 1 (length p) a) (leb-true (length p) 4096 b) c), program-read c))
 
-module _ (n : ℕ) (s : List ℕ) (at : ℕ) (ws rest : List ℕ) (h : Here s at 2 (wordBytes ws) rest) where
+module _ (n : ℕ) (legal : storeLengthOk n ≡ true) (s : List ℕ) (at : ℕ) (ws rest : List ℕ) (h : Here s at 2 (wordBytes ws) rest) where
   first-clean : length ws ≤ n → Clean n s 1 at
   unfolding lengthWrong countWrong inOrder wordWrong lineWrong
   first-clean most =
@@ -84,6 +86,7 @@ module _ (n : ℕ) (s : List ℕ) (at : ℕ) (ws rest : List ℕ) (h : Here s at
         count = rw (h .kind);
         order = rw (h .kind);
         word = rw (h .kind);
+        store = legal;
         line = rw (h .kind);
       }
 
@@ -100,7 +103,8 @@ pub record Bounds (r : Run) : Type 0 where
   pub line : r .line ≤ 7
   pub input : r .input ≤ 4294967295
 
-module _ (n : ℕ) (s : List ℕ) (at : ℕ) (r : Run) (rest : List ℕ) (h : Here s at 3 (runPayload r) rest) (b : Bounds r) where
+module _ (n : ℕ) (legal : storeLengthOk n ≡ true) (s : List ℕ) (at : ℕ) (r : Run) (rest : List ℕ)
+    (h : Here s at 3 (runPayload r) rest) (b : Bounds r) where
   count-back : countAt s at ≡ r .count
   count-back = le4-back s (at + 6) (r .count) (omega (arith, b .most)) (h .inner)
 
@@ -127,6 +131,7 @@ module _ (n : ℕ) (s : List ℕ) (at : ℕ) (r : Run) (rest : List ℕ) (h : He
             rw (h .kind, count-back, ne-eqb (r .count) 0 (λ e. omega (arith, e, b .one)), le-ltb 65536 (r .count) (b .most));
         order = rw (h .kind, z);
         word = rw (h .kind);
+        store = legal;
         line = rw (h .kind, line-back, le-ltb 7 (r .line) (b .line));
       }
 

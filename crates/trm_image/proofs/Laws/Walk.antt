@@ -11,7 +11,7 @@ use lib.Seq.{drop-cons, drop-drop, getD-drop}
 use lib.Dec.{eqb, ltb}
 use borrow.Author.Tests.{ltb-false}
 use Rattle.trm_image.specs.Records.{le4, lengthAt, kindAt, begins, recordsOf}
-use Rattle.trm_image.specs.Refused.{Refused, cutShort, faultAt, firstFault, storeFault, imageFault}
+use Rattle.trm_image.specs.Refused.{cutShort, faultAt, firstFault, imageFault}
 use Rattle.trm_image.proofs.Laws.Clean.{clean, neither}
 
 skips : (k at : ℕ) (s : List ℕ) → begins k at s ≡ begins 0 (at + k) (drop k s)
@@ -70,10 +70,6 @@ whole-record n s before at le t =
 
 -- the whole image
 module _ (n : ℕ) (s : List ℕ) (small : ltb 65536 (length s) ≡ false) (some : eqb (length s) 0 ≡ false) where
-  pub image-refused : (f : Refused) → firstFault n s 0 (recordsOf s) ≡ f → eqb (f .number) 0 ≡ false → imageFault n s ≡ f
+  pub image-read : imageFault n s ≡ firstFault n s 0 (recordsOf s)
   unfolding imageFault
-  image-refused f e z = rw (small, some, e, z)
-
-  pub image-read : firstFault n s 0 (recordsOf s) ≡ record { number = 0; at = 0 } → imageFault n s ≡ storeFault n
-  unfolding imageFault
-  image-read e = rw (small, some, e)
+  image-read = rw (small, some)

@@ -1,17 +1,19 @@
 // The rows of the table for one record, one function each, and the table down.
-// Paper: "Where calls are turned down", rows 1, 2, 3 and 6.
+// Paper: "Where calls are turned down", rows 1, 2, 3, 4 and 6.
 // The test of program words ends at the first that fails it.
 ghost use mathlib.Core.Path.{_≡_};
 ghost use mathlib.Core.Bool.{not, _||_};
 ghost use Prim.Native.Nat.{_+_, _≤_, _<_, _%_};
 ghost use lib.ListN.{length};
 ghost use lib.Dec.{eqb, ltb};
+ghost use Rattle.trm_word.specs.Address.{storeLengthOk};
 ghost use Rattle.trm_core.specs.Refusals.{allAtMost};
 ghost use Rattle.trm_image.specs.Records.{wordsAt};
 ghost use Rattle.trm_image.specs.Numbers.{numberOf};
 ghost use Rattle.trm_image.specs.Refused.{cutShort, lengthWrong, countWrong, inOrder, wordWrong, lineWrong, faultAt};
 use crate::fault::Fault;
 use crate::inner::bytes;
+use trm_word::inner::address;
 
 // 1: "a record cut short".
 pub fn cut_short(s: &[u8], at: usize) -> bool
@@ -114,6 +116,13 @@ fn word_wrong(s: &[u8], at: usize) -> bool
     !words_fit(s, at + 6, bytes::word_at(s, at) as usize / 4)
 }
 
+// 4: "length no power of two in 64-32,768".
+fn store_wrong(words: usize) -> bool
+    ensures { λ r. ⌜ r ≡ not (storeLengthOk words) ⌝ }
+{
+    !address::store_length_ok(words as u64)
+}
+
 // 6: "a byte above 7".
 fn line_wrong(s: &[u8], at: usize) -> bool
     requires { ⌜ at ≤ 65536 ⌝ }
@@ -145,6 +154,9 @@ pub fn fault_at(s: &[u8], before: u32, at: usize, words: usize) -> Fault
     }
     if word_wrong(s, at) {
         return Fault::Program;
+    }
+    if store_wrong(words) {
+        return Fault::Store;
     }
     if line_wrong(s, at) {
         return Fault::Lines;

@@ -31,7 +31,7 @@ use Rattle.trm_core.specs.Clock.{missing, firstClock, writeLine, advance, worke
 use Rattle.trm_core.specs.Refusals.{allAtMost}
 use Rattle.trm_image.specs.Records.{payloadAt, wordsAt, begins, recordsOf}
 use Rattle.trm_image.specs.Refused.{cutShort, lengthWrong, countWrong, inOrder, wordWrong, lineWrong, faultAt, firstFault}
-use Rattle.trm_image.specs.Refused.{storeFault, imageFault}
+use Rattle.trm_image.specs.Refused.{imageFault}
 use Rattle.trm_image.specs.Meaning.{wordsIn, runsIn, imageOf}
 use Rattle.trm_text.specs.Numbers.{digits, places, decimal, hex}
 use Rattle.trm_text.specs.Lines.{shownBytes, lineBytes, linesBytes, endBytes, refusedBytes}
@@ -51,7 +51,7 @@ unfolding test same storeLengthOk signed word product lowWord highWord partialPr
     uncachedCharge chargeBy howMany clocks endOf lineAt holds lineView view writeWord fillWord below countDirty lowest firstDirty emptyTo
     allEmptied productAt remainderAt quotientAt resetOf lineFor hits chargeHere isLast cacheAfter storeAfter finish written
     writing filling missing firstClock writeLine advance worked unheld heldClock clockOf allAtMost payloadAt wordsAt begins recordsOf
-    cutShort lengthWrong countWrong inOrder wordWrong lineWrong faultAt firstFault storeFault imageFault wordsIn runsIn imageOf digits
+    cutShort lengthWrong countWrong inOrder wordWrong lineWrong faultAt firstFault imageFault wordsIn runsIn imageOf digits
     places decimal hex shownBytes lineBytes linesBytes endBytes refusedBytes interruptAt carriesOut shownBy tookAfter linesFrom
     endLine pinsOfRuns firstStore startOf linesOf finalOf listingOf outputOf paperExample interruptExample cacheExample
     refusedExample examples AllListed

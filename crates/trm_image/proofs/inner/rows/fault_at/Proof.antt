@@ -108,8 +108,8 @@ returns-5 c =
       c .if5 .taken,
     )
 
-line-wrong-requires : tie.Need-line-wrong-requires
-line-wrong-requires c κs = search needs
+store-wrong-requires : tie.Need-store-wrong-requires
+store-wrong-requires c κs = search needs
 
 returns-6 : tie.Need-returns-6
 unfolding faultAt
@@ -119,48 +119,66 @@ returns-6 c =
       ← c10 .before .before .before .cut-short .ensures,
       c10 .before .before .if1 .left,
       ← c10 .before .half-at .ensures,
-      ← c10
-          .word-at .ensures,
+      ← c10 .word-at .ensures,
       ← c .before .before .before .before .before .before .before .before .before .length-wrong .ensures,
-      c .before
-          .before .before .before .before .before .before .before .if2 .left,
-      ← c .before .before .before .before .before .before .before
-          .count-wrong .ensures,
+      c .before .before .before .before .before .before .before .before .if2 .left,
+      ← c .before .before .before .before .before .before .before .count-wrong .ensures,
       c .before .before .before .before .before .before .if3 .left,
-      ← c .before .before .before .before .before
-          .in-order .ensures,
+      ← c .before .before .before .before .before .in-order .ensures,
       c .before .before .before .before .if4 .left,
       ← c .before .before .before .word-wrong .ensures,
-      c .before
-          .before .if5 .left,
-      ← c .before .line-wrong .ensures,
+      c .before .before .if5 .left,
+      ← c .before .store-wrong .ensures,
       c .if6 .taken,
     )
+
+line-wrong-requires : tie.Need-line-wrong-requires
+line-wrong-requires c κs = search needs
 
 returns-7 : tie.Need-returns-7
 unfolding faultAt
 returns-7 c =
     let c10 = c .before .before .before .before .before .before .before .before .before .before in
     rw (
-      ← c10 .before .before .before .cut-short .ensures,
-      c10 .before .before .if1 .left,
-      ← c10 .before .half-at .ensures,
-      ← c10
-          .word-at .ensures,
-      ← c .before .before .before .before .before .before .before .before .before .length-wrong .ensures,
-      c .before
-          .before .before .before .before .before .before .before .if2 .left,
-      ← c .before .before .before .before .before .before .before
-          .count-wrong .ensures,
-      c .before .before .before .before .before .before .if3 .left,
-      ← c .before .before .before .before .before
-          .in-order .ensures,
-      c .before .before .before .before .if4 .left,
-      ← c .before .before .before .word-wrong .ensures,
-      c .before
-          .before .if5 .left,
+      ← c10 .before .before .before .before .before .cut-short .ensures,
+      c10 .before .before .before .before .if1 .left,
+      ← c10 .before .before .before .half-at .ensures,
+      ← c10 .before .before .word-at .ensures,
+      ← c10 .before .length-wrong .ensures,
+      c10 .if2 .left,
+      ← c .before .before .before .before .before .before .before .before .before .count-wrong .ensures,
+      c .before .before .before .before .before .before .before .before .if3 .left,
+      ← c .before .before .before .before .before .before .before .in-order .ensures,
+      c .before .before .before .before .before .before .if4 .left,
+      ← c .before .before .before .before .before .word-wrong .ensures,
+      c .before .before .before .before .if5 .left,
+      ← c .before .before .before .store-wrong .ensures,
+      c .before .before .if6 .left,
       ← c .before .line-wrong .ensures,
-      c .if6 .left,
+      c .if7 .taken,
+    )
+
+returns-8 : tie.Need-returns-8
+unfolding faultAt
+returns-8 c =
+    let c10 = c .before .before .before .before .before .before .before .before .before .before in
+    rw (
+      ← c10 .before .before .before .before .before .cut-short .ensures,
+      c10 .before .before .before .before .if1 .left,
+      ← c10 .before .before .before .half-at .ensures,
+      ← c10 .before .before .word-at .ensures,
+      ← c10 .before .length-wrong .ensures,
+      c10 .if2 .left,
+      ← c .before .before .before .before .before .before .before .before .before .count-wrong .ensures,
+      c .before .before .before .before .before .before .before .before .if3 .left,
+      ← c .before .before .before .before .before .before .before .in-order .ensures,
+      c .before .before .before .before .before .before .if4 .left,
+      ← c .before .before .before .before .before .word-wrong .ensures,
+      c .before .before .before .before .if5 .left,
+      ← c .before .before .before .store-wrong .ensures,
+      c .before .before .if6 .left,
+      ← c .before .line-wrong .ensures,
+      c .if7 .left,
     )
 
 pub fault-at-spec : {M : Type 1} → statement M
@@ -181,6 +199,8 @@ fault-at-spec =
     returns-4
     word-wrong-requires
     returns-5
-    line-wrong-requires
+    store-wrong-requires
     returns-6
-    returns-7)
+    line-wrong-requires
+    returns-7
+    returns-8)
