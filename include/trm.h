@@ -172,11 +172,12 @@ typedef struct trm_encode_answer {
 
 typedef struct trm_image_answer {
     uint32_t number;
-    uint64_t at; /* the byte where the record at fault begins; 0 for an image too long or empty, for 4, and for none */
+    uint64_t at; /* the byte where the record at fault begins; 0 for an image too long or empty, and for none */
 } trm_image_answer;
 
 typedef struct trm_part_answer {
-    uint64_t start;
+    uint32_t number;
+    uint64_t start; /* the byte of the image where the part begins */
     uint64_t length;
 } trm_part_answer;
 
@@ -228,8 +229,8 @@ trm_encode_answer trm_encode(trm_instruction instruction);
  * length that no store has, at 0, once the first record has passed rows 1, 2 and 3. */
 trm_image_answer trm_image_check(const uint8_t *image, size_t image_bytes, size_t store_words);
 
-/* The payload of the record that begins at byte `at`, as a part of the image: where it begins and how many bytes it has; what lies past
- * the image's end is cut off. For any bytes and any place; not refused. */
+/* The payload of the record that begins at byte `at`, as a part of the image: where it begins and how many bytes it has. Refused: 1 (over
+ * 65,536 bytes, or that record is cut short), 2 (no record of the image begins there). */
 trm_part_answer trm_image_payload(const uint8_t *image, size_t image_bytes, size_t at);
 
 #ifdef __cplusplus

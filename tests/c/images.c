@@ -132,23 +132,45 @@ static void test_limits(void)
     expect_image(zeros, 65536, 2048, TRM_REFUSED_KIND, 0, "65,536 bytes of 0", 0);
 }
 
-/* The payload of the record at a place: the paper's image has 12 bytes from 6 on, and 9 from 24 on; past the end it is cut off. */
+static void expect_part(const uint8_t *image, size_t bytes, size_t at, uint32_t number, uint64_t start, uint64_t length, const char *what,
+                        size_t row)
+{
+    trm_part_answer a = trm_image_payload(image, bytes, at);
+    hold(a.number == number && a.start == start && a.length == length, what, row);
+}
+
+/* The payload of the record at a place: the paper's image has 12 bytes from 6 on, and 9 from 24 on. It is 2 where no record begins, as at
+ * the end of the bytes that are left, and 1 where the record that does is cut short. */
 static void test_payloads(void)
 {
-    static const struct { size_t at; uint64_t start, length; } rows[] = {
-        {0, 6, 12}, {18, 24, 9}, {27, 33, 0}, {28, 33, 0}, {33, 33, 0}, {34, 33, 0}, {SIZE_MAX, 33, 0}, {SIZE_MAX - 5, 33, 0}, {4, 10, 23},
+    static const struct { size_t bytes, at; uint32_t number; uint64_t start, length; } rows[] = {
+        {33, 0, 0, 6, 12},  {33, 18, 0, 24, 9}, {33, 1, 2, 0, 0},   {33, 4, 2, 0, 0},   {33, 17, 2, 0, 0},
+        {33, 19, 2, 0, 0},  {33, 27, 2, 0, 0},  {33, 33, 2, 0, 0},  {33, 34, 2, 0, 0},  {33, SIZE_MAX, 2, 0, 0},
+        {33, SIZE_MAX - 5, 2, 0, 0},            {32, 18, 1, 0, 0},  {24, 18, 1, 0, 0},  {23, 18, 1, 0, 0},
+        {19, 18, 1, 0, 0},  {18, 18, 2, 0, 0},  {18, 0, 0, 6, 12},  {32, 0, 0, 6, 12},  {17, 0, 1, 0, 0},
+        {17, 18, 2, 0, 0},  {6, 0, 1, 0, 0},    {5, 0, 1, 0, 0},    {1, 0, 1, 0, 0},    {1, 1, 2, 0, 0},
     };
-    for (size_t i = 0; i < sizeof rows / sizeof rows[0]; i++) {
-        trm_part_answer a = trm_image_payload(PAPER, sizeof PAPER, rows[i].at);
-        hold(a.start == rows[i].start && a.length == rows[i].length, "the payload of a record, row", i);
-    }
-    trm_part_answer none = trm_image_payload(NULL, 0, 0);
-    hold(none.start == 0 && none.length == 0, "the payload of an empty image", 0);
+    for (size_t i = 0; i < sizeof rows / sizeof rows[0]; i++)
+        expect_part(PAPER, rows[i].bytes, rows[i].at, rows[i].number, rows[i].start, rows[i].length, "the payload of a record, row", i);
+    expect_part(NULL, 0, 0, TRM_REFUSED_KIND, 0, 0, "the payload of an empty image", 0);
+}
+
+/* Bytes of 0: records of six bytes and no payload, of which 65,536 hold 10,922 and the first four bytes of one more. */
+static void test_payloads_of_zeros(void)
+{
+    static const uint8_t zeros[65537];
+    static const struct { size_t bytes, at; uint32_t number; uint64_t start; } rows[] = {
+        {65537, 0, 1, 0}, {65537, 1, 1, 0},     {65537, 65536, 1, 0}, {65536, 0, 0, 6},     {65536, 6, 0, 12},
+        {65536, 3, 2, 0}, {65536, 65526, 0, 65532}, {65536, 65532, 1, 0}, {65536, 65535, 2, 0}, {65536, 65536, 2, 0},
+    };
+    for (size_t i = 0; i < sizeof rows / sizeof rows[0]; i++)
+        expect_part(zeros, rows[i].bytes, rows[i].at, rows[i].number, rows[i].start, 0, "the payload of a record of zeros, row", i);
 }
 
 void test_images(void)
 {
     test_payloads();
+    test_payloads_of_zeros();
     test_cut();
     test_spoiled();
     test_records();

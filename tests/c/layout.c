@@ -75,9 +75,10 @@ FIELD(trm_encode_answer, word, 4, 4);
 SIZE(trm_image_answer, 16);
 FIELD(trm_image_answer, number, 0, 4);
 FIELD(trm_image_answer, at, 8, 8);
-SIZE(trm_part_answer, 16);
-FIELD(trm_part_answer, start, 0, 8);
-FIELD(trm_part_answer, length, 8, 8);
+SIZE(trm_part_answer, 24);
+FIELD(trm_part_answer, number, 0, 4);
+FIELD(trm_part_answer, start, 8, 8);
+FIELD(trm_part_answer, length, 16, 8);
 
 void test_layout(void)
 {

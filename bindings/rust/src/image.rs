@@ -4,34 +4,31 @@
 use crate::lines::Lines;
 use crate::machine::Machine;
 use crate::raw;
-use crate::refusal::{accepted, ImageFault};
+use crate::refusal::{accepted, ImageFault, Refusal};
 
 /// Whether an image can be run with a store of so many words; its first fault if not. Refused: [`Refusal::Image`],
 /// [`Refusal::Kind`], [`Refusal::Program`], [`Refusal::Store`], [`Refusal::Lines`].
-///
-/// [`Refusal::Image`]: crate::Refusal::Image
-/// [`Refusal::Kind`]: crate::Refusal::Kind
-/// [`Refusal::Program`]: crate::Refusal::Program
-/// [`Refusal::Store`]: crate::Refusal::Store
-/// [`Refusal::Lines`]: crate::Refusal::Lines
 pub fn check(image: &[u8], store_words: usize) -> Result<(), ImageFault> {
     let answer = raw::image_check(image, store_words);
     accepted(answer.number).map_err(|refusal| ImageFault { refusal, at: answer.at })
 }
 
-/// The payload of the record that begins at byte `at`, as a part of the image itself. What lies past the image's end is cut off.
+/// The payload of the record that begins at byte `at`, as a part of the image itself. Refused: [`Refusal::Image`] for an image that is too
+/// long and for a record cut short, [`Refusal::Kind`] where no record of the image begins.
 ///
 /// ```
 /// use trm::image::payload;
+/// use trm::Refusal;
 ///
 /// let image = [4, 0, 0, 0, 1, 0, 0x05, 0, 0, 0]; // kind 1 with one word, 00005H
-/// assert_eq!(payload(&image, 0), [0x05, 0, 0, 0]);
-/// assert_eq!(payload(&image[..8], 0), [0x05, 0]);
-/// assert_eq!(payload(&image, 10), []);
+/// assert_eq!(payload(&image, 0), Ok(&[0x05, 0, 0, 0][..]));
+/// assert_eq!(payload(&image[..8], 0), Err(Refusal::Image));
+/// assert_eq!(payload(&image, 10), Err(Refusal::Kind));
 /// ```
-pub fn payload(image: &[u8], at: usize) -> &[u8] {
+pub fn payload(image: &[u8], at: usize) -> Result<&[u8], Refusal> {
     let part = raw::image_payload(image, at);
-    &image[part.start as usize..][..part.length as usize]
+    accepted(part.number)?;
+    Ok(&image[part.start as usize..][..part.length as usize])
 }
 
 /// One run of an image: so many clocks, each with the same lines and input word.
@@ -123,7 +120,7 @@ fn records(image: &[u8]) -> impl Iterator<Item = (u32, &[u8])> {
     let mut at = 0;
     std::iter::from_fn(move || {
         let kind = number(image.get(at + 4..at + 6)?);
-        let payload = payload(image, at);
+        let payload = payload(image, at).expect("a record of an accepted image");
         at += 6 + payload.len();
         Some((kind, payload))
     })

@@ -221,6 +221,8 @@ pub struct ImageAnswer {
 #[repr(C)]
 #[derive(Clone, Copy, PartialEq, Eq, Debug)]
 pub struct PartAnswer {
+    /// The refusal.
+    pub number: u32,
     /// The byte of the image where the part begins.
     pub start: u64,
     /// Its bytes.
@@ -392,7 +394,7 @@ pub fn image_check(image: &[u8], store_words: usize) -> ImageAnswer {
     unsafe { trm_image_check(image.as_ptr(), image.len(), store_words) }
 }
 
-/// The payload of the record that begins at a byte, as a part of the image. Not refused.
+/// The payload of the record that begins at a byte, as a part of the image. Refused: 1, 2.
 pub fn image_payload(image: &[u8], at: usize) -> PartAnswer {
     unsafe { trm_image_payload(image.as_ptr(), image.len(), at) }
 }

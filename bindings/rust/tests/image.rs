@@ -49,19 +49,29 @@ fn data_and_runs() {
     assert_eq!(machine.memory()[..3], [0x0403_0201, 0xFFFF_FFFF, 0]);
 }
 
-/// Payloads of the example, whole and cut, and of places where no record begins.
+/// Payloads of the example.
 #[test]
 fn payloads_are_parts_of_the_image() {
     let bytes = [&PROGRAM[..], &FORTY].concat();
-    let part = |bytes: &[u8], at| {
-        let raw::PartAnswer { start, length } = raw::image_payload(bytes, at);
-        assert_eq!(payload(bytes, at), &bytes[start as usize..(start + length) as usize]);
-        (start, length)
-    };
-    assert_eq!((part(&bytes, 0), part(&bytes, 18)), ((6, 12), (24, 9)));
-    assert_eq!((part(&bytes[..30], 18), part(&bytes[..24], 18)), ((24, 6), (24, 0)));
-    assert_eq!((part(&bytes[..23], 18), part(&bytes, 33), part(&bytes, usize::MAX)), ((23, 0), (33, 0), (33, 0)));
-    assert_eq!(part(&bytes, 1), (7, 26)); // bytes 1 to 4 read as the length 1000000H: cut at the end
+    assert_eq!((payload(&bytes, 0), payload(&bytes, 18)), (Ok(&PROGRAM[6..]), Ok(&FORTY[6..])));
+    assert_eq!(payload(&bytes, 18).unwrap().as_ptr(), bytes[24..].as_ptr());
+    assert_eq!(raw::image_payload(&bytes, 18), raw::PartAnswer { number: 0, start: 24, length: 9 });
+    assert_eq!(payload(&[0; 6], 0), Ok(&[][..]));
+}
+
+/// Of a record cut short, of places where no record begins, and of an image too long.
+#[test]
+fn payloads_refused() {
+    let bytes = [&PROGRAM[..], &FORTY].concat();
+    for end in 19..33 {
+        assert_eq!((payload(&bytes[..end], 0), payload(&bytes[..end], 18)), (Ok(&PROGRAM[6..]), Err(Refusal::Image)));
+    }
+    for at in (1..18).chain(19..40).chain([usize::MAX]) {
+        assert_eq!(payload(&bytes, at), Err(Refusal::Kind), "{at}");
+    }
+    assert_eq!((payload(&bytes[..18], 18), payload(&bytes[..17], 0)), (Err(Refusal::Kind), Err(Refusal::Image)));
+    assert_eq!((payload(&[0; 65536], 6), payload(&[0; 65537], 6)), (Ok(&[][..]), Err(Refusal::Image)));
+    assert_eq!(raw::image_payload(&bytes[..32], 18), raw::PartAnswer { number: 1, start: 0, length: 0 });
 }
 
 /// Data may fill the store, and a program alone is an image.

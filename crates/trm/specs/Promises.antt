@@ -7,7 +7,7 @@ use mathlib.Core.Path.{_≡_}
 use mathlib.Core.Bool.{cond}
 use mathlib.Core.List.{List}
 use lib.ListN.{length, take, drop}
-use lib.Dec.{ltb}
+use lib.Dec.{eqb}
 use Rattle.trm_reference.specs.Geometry.{paperGeometry}
 use Rattle.trm_reference.specs.Access.{Answer}
 use Rattle.trm_reference.specs.Trace.{After}
@@ -21,8 +21,8 @@ use Rattle.trm_engine.specs.declared.machine.Machine.{Machine}
 use Rattle.trm_engine.specs.Machine.{recordOf, lent}
 use Rattle.trm_calls.specs.Promises.{pins, resetGives, clockGives, runGives}
 use Rattle.trm_inspect.specs.Promises.{lookGives, copyGives}
-use Rattle.trm_image.specs.Refused.{imageFault}
-use Rattle.trm_image.specs.Records.{payloadAt}
+use Rattle.trm_image.specs.Refused.{imageFault, payloadFault}
+use Rattle.trm_image.specs.Promises.{payloadGives}
 use Rattle.trm.specs.declared.answer.ResetAnswer.{ResetAnswer}
 use Rattle.trm.specs.declared.answer.ClockAnswer.{ClockAnswer}
 use Rattle.trm.specs.declared.answer.LentAnswer.{LentAnswer}
@@ -82,12 +82,13 @@ pub record ImageNumbered (n : ℕ) (image : List ℕ) (r : ImageAnswer) : Type 0
   pub number : r .number ≡ imageFault n image .number
   pub at : r .at ≡ imageFault n image .at
 
--- where the payload of the record at `at` begins: after its six bytes, or at the image's end if that is nearer
+-- where the payload of the record at `at` begins: after its six bytes; 0 where it is refused
 abbrev pub payloadStart : List ℕ → ℕ → ℕ
-payloadStart s at = cond (ltb (length s) (at + 6)) (length s) (at + 6)
+payloadStart s at = cond (eqb (payloadFault s at) 0) (at + 6) 0
 
--- the part is the payload
+-- the number; start and length; and the part that they tell is the payload, or no byte where it is refused
 pub record PayloadPart (s : List ℕ) (at : ℕ) (r : PartAnswer) : Type 0 where
+  pub number : r .number ≡ payloadFault s at
   pub start : r .start ≡ payloadStart s at
-  pub bytes : r .length ≡ length (payloadAt s at)
-  pub part : take (r .length) (drop (r .start) s) ≡ payloadAt s at
+  pub bytes : r .length ≡ length (payloadGives s at)
+  pub part : take (r .length) (drop (r .start) s) ≡ payloadGives s at

@@ -1,13 +1,14 @@
 -- The laws, one theme to a file.
 -- `Words`: words one after another; `Parts`: a payload as a part of the image; `Clean`: a record without a fault; `Walk`: record after
--- record; `Runs`: runs to the end; `Accepted`: an accepted image; `Load`: words put into an array; `First`: the first fault; `Bytes`,
--- `Written`, `Described`: an accepted image written out; `Readback`, `Unfaulted`, `Complete`: what is written out is accepted and read;
--- `Tables`: the table of images.
+-- record; `Places`: where records begin; `Runs`: runs to the end; `Accepted`: an accepted image; `Load`: words put into an array;
+-- `First`: the first fault; `Bytes`, `Written`, `Described`: an accepted image written out; `Readback`, `Unfaulted`, `Complete`: what is
+-- written out is accepted and read; `Tables`: the table of images.
 -- Assumes nothing.
 pub mod Words
 pub mod Parts
 pub mod Clean
 pub mod Walk
+pub mod Places
 pub mod Runs
 pub mod Accepted
 pub mod Load

@@ -2,10 +2,12 @@
 -- Paper: "A record is a payload length (4 bytes, little-endian), a kind (2 bytes) and the payload"; "Words are 4 bytes, little-endian
 -- like the rest". Assumes nothing.
 --   lengthAt, kindAt, payloadAt s at   of the record that begins at this byte        wordsAt s at n   n words from this byte on
---   recordsOf s   where each record of s begins
+--   recordsOf s   where each record of s begins        recordAt s at   whether one begins at this byte
 use Prim.Native.Nat.{ℕ, zero, suc, _+_, _*_}
+use mathlib.Core.Bool.{Bool, false, _||_}
 use mathlib.Core.List.{List, [], _∷_}
 use lib.ListN.{getD, take, drop}
+use lib.Dec.{eqb}
 
 abbrev pub le2 : List ℕ → ℕ → ℕ
 le2 s at = getD s at 0 + 256 * getD s (at + 1) 0
@@ -19,7 +21,7 @@ lengthAt s at = le4 s at
 abbrev pub kindAt : List ℕ → ℕ → ℕ
 kindAt s at = le2 s (at + 4)
 
--- "The reader hands back the payload as a part of the image itself"; what lies past the end is cut off
+-- "The reader hands back the payload as a part of the image itself": the bytes after the six; all of them, in a record not cut short
 unfoldable pub payloadAt : List ℕ → ℕ → List ℕ
 payloadAt s at = take (lengthAt s at) (drop (at + 6) s)
 
@@ -36,3 +38,10 @@ begins (suc skip) at (b ∷ bs) = begins skip (suc at) bs
 
 unfoldable pub recordsOf : List ℕ → List ℕ
 recordsOf s = begins 0 0 s
+
+unfoldable pub among : ℕ → List ℕ → Bool
+among at [] = false
+among at (b ∷ bs) = eqb at b || among at bs
+
+unfoldable pub recordAt : List ℕ → ℕ → Bool
+recordAt s at = among at (recordsOf s)

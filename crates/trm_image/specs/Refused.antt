@@ -3,6 +3,7 @@
 -- fault counts"; "(0 if too long or empty)". Assumes nothing. n is the store's length in words.
 --   faultAt n s before at   the row that the record at `at` fails, the kind before it being `before`, 0 for none
 --   imageFault n s          the whole image
+--   payloadFault s at       the payload of the record at `at`, which takes an image and a place: rows 1 and 2
 use Prim.Native.Nat.{ℕ, _+_, _-_, _/_, _%_}
 use mathlib.Core.Bool.{Bool, false, cond, not, _&&_, _||_}
 use mathlib.Core.List.{List, [], _∷_}
@@ -10,7 +11,7 @@ use lib.ListN.{length, getD}
 use lib.Dec.{eqb, ltb}
 use Rattle.trm_word.specs.Address.{storeLengthOk}
 use Rattle.trm_core.specs.Refusals.{allAtMost}
-use Rattle.trm_image.specs.Records.{le4, lengthAt, kindAt, wordsAt, recordsOf}
+use Rattle.trm_image.specs.Records.{le4, lengthAt, kindAt, wordsAt, recordsOf, recordAt}
 
 -- 1: "a record cut short"
 unfoldable pub cutShort : List ℕ → ℕ → Bool
@@ -81,3 +82,11 @@ imageFault n s =
     cond (ltb 65536 (length s)) (record { number = 1; at = 0 })
     (cond (eqb (length s) 0) (record { number = 2; at = 0 })
     (firstFault n s 0 (recordsOf s)))
+
+-- 1: "over 65,536 bytes"; 2 where no record of the image begins; 1: "a record cut short". The last is asked of a record of the image only:
+-- a place where none begins has no record that could be cut short.
+unfoldable pub payloadFault : List ℕ → ℕ → ℕ
+payloadFault s at =
+    cond (ltb 65536 (length s)) 1
+    (cond (not (recordAt s at)) 2
+    (cond (cutShort s at) 1 0))

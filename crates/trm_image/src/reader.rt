@@ -3,12 +3,13 @@
 // Any bytes, any offset, any store length has an outcome; nothing is written.
 ghost use mathlib.Core.Path.{_≡_};
 ghost use lib.Dec.{eqb};
-ghost use Rattle.trm_image.specs.Records.{payloadAt};
 ghost use Rattle.trm_image.specs.Numbers.{numberOf};
-ghost use Rattle.trm_image.specs.Promises.{CheckHolds};
+ghost use Rattle.trm_image.specs.Refused.{payloadFault};
+ghost use Rattle.trm_image.specs.Promises.{CheckHolds, payloadGives};
 use crate::fault::Checked;
 use crate::fault::Fault;
 use crate::inner::bytes;
+use crate::inner::part;
 use crate::inner::rows;
 
 // Whether there is no fault.
@@ -60,20 +61,29 @@ pub fn check(image: &[u8], words: usize) -> Checked
     }
 }
 
-// The payload of the record that begins at this offset; what lies past the end is cut off.
-pub fn payload(image: &[u8], at: usize) -> &[u8]
-    ensures { λ r. ⌜ now r ≡ payloadAt (now (image .entry)) at ⌝ }
+// Why the payload of the record that begins at this offset is refused: the image is too long, none begins there, or it is cut short.
+pub fn payload_fault(image: &[u8], at: usize) -> Fault
+    ensures { λ r. ⌜ numberOf r ≡ payloadFault (now (image .entry)) at ⌝ }
 {
-    if image.len() <= at {
+    if image.len() > 65536 {
+        return Fault::Frame;
+    }
+    if !part::record_at(image, at) {
+        return Fault::Kind;
+    }
+    if rows::cut_short(image, at) {
+        return Fault::Frame; // its end is missing
+    }
+    Fault::Accepted
+}
+
+// The payload of the record that begins at this offset, as a part of the image; no byte where it is refused.
+pub fn payload(image: &[u8], at: usize) -> &[u8]
+    ensures { λ r. ⌜ now r ≡ payloadGives (now (image .entry)) at ⌝ }
+{
+    let fault = payload_fault(image, at);
+    if !accepted(fault) {
         return &image[0..0];
     }
-    if image.len() - at < 6 {
-        return &image[0..0];
-    }
-    let start = at + 6;
-    let length = bytes::word_at(image, at) as usize;
-    if image.len() - start < length {
-        return &image[start..];
-    }
-    &image[start..start + length]
+    part::part_at(image, at)
 }

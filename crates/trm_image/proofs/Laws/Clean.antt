@@ -15,7 +15,7 @@ use Rattle.trm_image.specs.Records.{lengthAt, kindAt, wordsAt}
 use Rattle.trm_image.specs.Refused.{cutShort, lengthWrong, countAt, lineAt, countWrong, inOrder, wordWrong, lineWrong, faultAt}
 
 -- a row that is not met leaves the rows below it
-passed : (t : Bool) (row x : ℕ) → eqb row 0 ≡ false → eqb (cond t row x) 0 ≡ true → (t ≡ false) × (eqb x 0 ≡ true)
+pub passed : (t : Bool) (row x : ℕ) → eqb row 0 ≡ false → eqb (cond t row x) 0 ≡ true → (t ≡ false) × (eqb x 0 ≡ true)
 passed true row x z e = clash (sym z ∙ e)
 passed false row x z e = (refl, e)
 

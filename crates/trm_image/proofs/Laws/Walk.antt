@@ -58,15 +58,19 @@ module _ (n : ℕ) (s : List ℕ) (before at : ℕ) where
   unfolding firstFault
   fault-none h = rw (ended s at h)
 
--- a record without a fault lies inside the image
-pub whole-record : (n : ℕ) (s : List ℕ) (before at : ℕ) → at ≤ length s → eqb (faultAt n s before at) 0 ≡ true
-    → at + 6 + lengthAt s at ≤ length s
+-- a record that is not cut short lies inside the image
+pub uncut : (s : List ℕ) (at : ℕ) → at ≤ length s → cutShort s at ≡ false → at + 6 + lengthAt s at ≤ length s
 unfolding cutShort
-whole-record n s before at le t =
-    let both = neither (ltb (length s - at) 6) (ltb (length s - (at + 6)) (lengthAt s at)) (clean n s before at t .whole) in
+uncut s at le t =
+    let both = neither (ltb (length s - at) 6) (ltb (length s - (at + 6)) (lengthAt s at)) t in
     let a : 6 ≤ length s - at = ltb-false (length s - at) 6 (both .0) in
     let b : lengthAt s at ≤ length s - (at + 6) = ltb-false (length s - (at + 6)) (lengthAt s at) (both .1) in
     omega arith
+
+-- and so does one without a fault
+pub whole-record : (n : ℕ) (s : List ℕ) (before at : ℕ) → at ≤ length s → eqb (faultAt n s before at) 0 ≡ true
+    → at + 6 + lengthAt s at ≤ length s
+whole-record n s before at le t = uncut s at le (clean n s before at t .whole)
 
 -- the whole image
 module _ (n : ℕ) (s : List ℕ) (small : ltb 65536 (length s) ≡ false) (some : eqb (length s) 0 ≡ false) where

@@ -1,23 +1,53 @@
 -- The proof of trm::image::trm_image_payload.
-use Rattle.trm.proofs.Laws.Payload.{payload-part}
-use mathlib.Core.Path.{ap}
+use mathlib.Core.Path.{sym, ap, _∙_}
+use native.Mathlib.Omega.{arith}
 use lib.ListN.{length}
+use lib.Dec.{eqb}
+use borrow.Author.Tests.{not-true, not-false}
+use Rattle.trm_image.proofs.Laws.Places.{payload-whole}
+use Rattle.trm.proofs.Laws.Payload.{payload-refused, payload-told}
 use borrow.Author.Needs.{needs}
 use Rattle.trm.proofs.image.trm_image_payload.Statement.{statement}
 use Rattle.trm.proofs.image.trm_image_payload.Tie as tie
-use Rattle.trm.proofs.image.trm_image_payload.Reads as reads
-use Rattle.trm.proofs.image.trm_image_payload.Lts as lts
-use Rattle.trm.proofs.image.payload_start.Reads as payload-start-reads
-use Rattle.trm_image.proofs.reader.payload.Reads as payload-reads
 
-payload-start-requires : tie.Need-payload-start-requires
-payload-start-requires c κs = search needs
+payload-fault-requires : tie.Need-payload-fault-requires
+payload-fault-requires c κs = search needs
 
-payload-requires : tie.Need-payload-requires
-payload-requires c κs = search needs
+accepted-requires : tie.Need-accepted-requires
+accepted-requires c κs = search needs
+
+number-of-requires : tie.Need-number-of-requires
+number-of-requires c κs = search needs
 
 returns : tie.Need-returns
-returns c = payload-part _ _ _ _ (c .before .payload-start .ensures) (ap length (c .payload .ensures))
+returns c =
+    payload-refused _ _ _ (c .number-of .ensures ∙ c .before .before .before .payload-fault .ensures)
+    (ap (λ k. eqb k 0) (c .number-of .ensures) ∙ sym (c .before .before .accepted .ensures) ∙ not-true _ (c .before .if1 .taken))
+
+part-at-requires : tie.Need-part-at-requires
+part-at-requires c κs =
+    payload-whole _ _ (ap (λ k. eqb k 0) (sym (c .before .before .payload-fault .ensures)) ∙ sym (c .before .accepted .ensures)
+    ∙ not-false _ (c .if1 .left))
+
+add-t8 : tie.Need-add-t8
+add-t8 c =
+    let whole = payload-whole _ _ (ap (λ k. eqb k 0) (sym (c .before .before .before .payload-fault .ensures)) ∙ sym
+    (c .before .before .accepted .ensures) ∙ not-false _ (c .before .if1 .left)) in
+    omega (arith, whole)
+
+returns-2 : tie.Need-returns-2
+returns-2 c =
+    payload-told _ _ _ (ap (λ k. eqb k 0) (sym (c .before .before .before .payload-fault .ensures)) ∙ sym
+    (c .before .before .accepted .ensures) ∙ not-false _ (c .before .if1 .left)) (ap length (c .part-at .ensures))
 
 pub trm-image-payload-spec : {M : Type 1} → statement M
-trm-image-payload-spec = tie.close (tie.spec payload-start-requires payload-requires returns)
+trm-image-payload-spec =
+    tie.close
+    (tie.spec
+    payload-fault-requires
+    accepted-requires
+    number-of-requires
+    returns
+    part-at-requires
+    add-t8
+    returns-2)
