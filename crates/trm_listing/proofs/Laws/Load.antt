@@ -7,9 +7,10 @@ use mathlib.Core.Logic.{_≢_}
 use mathlib.Core.List.{List, [], _++_}
 use native.Mathlib.Omega.{arith}
 use lib.ListN.{length, replicate, length-append, length-replicate}
-use Rattle.trm_image.specs.Records.{lengthAt, kindAt, wordsAt}
+use Rattle.trm_image.specs.Records.{lengthAt, kindAt, payloadAt, wordsAt}
 use Rattle.trm_image.specs.Meaning.{imageOf}
 use Rattle.trm_image.proofs.Laws.Accepted.{Head, Second, Third, accepted-head, accepted-second, accepted-third, kind-inside, length-wordsAt}
+use Rattle.trm_image.proofs.Laws.Parts.{payload-words, payload-length}
 use Rattle.trm_listing.specs.Listing.{firstStore}
 use Rattle.trm_listing.specs.Loaded.{Loadable, Loaded}
 
@@ -49,7 +50,10 @@ module _ (s st : List ℕ) (h : Loadable s st) where
       pub second-fits : lengthAt s at / 4 ≤ 2048
       second-fits = rw e (second .fits)
 
-      pub loaded-second : (len : ℕ) → len ≡ lengthAt s at → (st′ : List ℕ)
+      pub second-whole : at + 6 + lengthAt s at ≤ length s
+      second-whole = rw e (second .whole)
+
+      loaded-second : (len : ℕ) → len ≡ lengthAt s at → (st′ : List ℕ)
           → st′ ≡ wordsAt s (at + 6) (len / 4) ++ replicate (length st - len / 4) 0 → Loaded s st′ (at + 6 + len)
       loaded-second len f st′ q =
           let n : length (wordsAt s (at + 6) (len / 4)) ≡ len / 4 = length-wordsAt s (at + 6) (len / 4) in
@@ -61,3 +65,14 @@ module _ (s st : List ℕ) (h : Loadable s st) where
             runs = rw (f, e) (second .runs);
             list = rw (f, e) (second .list);
           }
+
+      -- as the code reads them, from the payload
+      module _ (part : List ℕ) (p : part ≡ payloadAt s at) where
+        pub part-long : length part ≡ lengthAt s at
+        part-long = ap length p ∙ payload-length s at second-whole
+
+        pub loaded-part : (st′ : List ℕ) → st′ ≡ wordsAt part 0 (length part / 4) ++ replicate (length st - length part / 4) 0
+            → Loaded s st′ (at + 6 + length part)
+        loaded-part st′ q =
+            let w = ap (λ t. wordsAt t 0 (length part / 4)) p ∙ payload-words s at (length part / 4) (omega (arith, part-long)) in
+            loaded-second (length part) part-long st′ (q ∙ ap (λ ws. ws ++ replicate (length st - length part / 4) 0) w)

@@ -18,10 +18,11 @@ use Rattle.trm_core.specs.Claims.{Kept}
 use Rattle.trm_core.specs.Refusals.{resetRefusal}
 use Rattle.trm_plan.proofs.Laws.Facts.{paper-ok}
 use Rattle.trm_core.proofs.Laws.Reset.{reset-kept}
-use Rattle.trm_image.specs.Records.{lengthAt, wordsAt, begins}
+use Rattle.trm_image.specs.Records.{lengthAt, payloadAt, wordsAt, begins}
 use Rattle.trm_image.specs.Refused.{imageFault}
 use Rattle.trm_image.specs.Meaning.{Image, imageOf, runsIn}
 use Rattle.trm_image.proofs.Laws.Accepted.{Head, accepted-head, length-wordsAt}
+use Rattle.trm_image.proofs.Laws.Parts.{payload-words, payload-length}
 use Rattle.trm_text.specs.Lines.{Line, lineBytes, linesBytes, header, refusedBytes}
 use Rattle.trm_text.specs.Wrote.{Wrote}
 use Rattle.trm_lines.specs.Lines.{lineOf, tookAfter, linesFrom, endLine}
@@ -92,6 +93,18 @@ module _ (s : List ℕ) where
         let w = length-wordsAt s 6 n in
         let z = length-replicate {A = ℕ} (4096 - n) 0 in
         ap length f ∙ omega (arith, a, w, z, e, h)
+
+    -- as the code reads them, from the payload
+    module _ (part : List ℕ) (e : part ≡ payloadAt s 0) where
+      pub part-long : length part ≡ lengthAt s 0
+      part-long = ap length e ∙ payload-length s 0 (accepted-head 2048 s ok .whole)
+
+      pub program-read : (program : List ℕ) (room : ℕ) → room ≡ 4096
+          → program ≡ wordsAt part 0 (length part / 4) ++ replicate (room - length part / 4) 0
+          → program ≡ wordsAt s 6 (length part / 4) ++ replicate (4096 - length part / 4) 0
+      program-read program room r q =
+          let w = ap (λ t. wordsAt t 0 (length part / 4)) e ∙ payload-words s 0 (length part / 4) (omega (arith, part-long)) in
+          rw r at (q ∙ ap (λ ws. ws ++ replicate (room - length part / 4) 0) w)
 
     module _ (p : List ℕ) (is : p ≡ imageOf s .program) (m : core.Machine) (st : List ℕ) (reset : m ≡ resetOf paperGeometry st) (at : ℕ)
         (loaded : Loaded s st at) where

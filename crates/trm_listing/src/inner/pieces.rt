@@ -1,6 +1,6 @@
 // The listing of an image, piece by piece: the first puts its bytes into the buffer, each other the next ones.
 // Paper: "reads an image .. with a store of 2,048 words, checks it whole, and runs it".
-// The program is checked once, by the image's check; the caller writes out each piece before it asks for the next.
+// The program is checked once, by the image's check; words are read from payloads; a piece is written out before the next is asked for.
 ghost use mathlib.Core.Path.{_≡_};
 ghost use Prim.Native.Nat.{_≤_};
 ghost use lib.ListN.{length};
@@ -13,6 +13,7 @@ use trm_engine::inner::start as reset;
 use trm_engine::machine::Machine;
 use trm_image::inner::bytes;
 use trm_image::inner::number;
+use trm_image::inner::part;
 use trm_image::inner::words as load;
 use trm_image::reader;
 use trm_lines::inner::listed::Listed;
@@ -42,9 +43,9 @@ fn load_store(image: &[u8], store: &mut [u32]) -> usize
         load::load_words(image, at, 0, store);
         return at;
     }
-    let length = bytes::word_at(image, at) as usize;
-    load::load_words(image, at + 6, length / 4, store);
-    at + 6 + length
+    let payload = part::part_at(image, at);
+    load::load_words(payload, 0, payload.len() / 4, store);
+    at + 6 + payload.len()
 }
 
 // The image is checked whole; then program and store are loaded and the header is put, or the line of the refusal.
@@ -70,8 +71,9 @@ pub fn first_piece(image: &[u8], program: &mut [u32], store: &mut [u32], buf: &m
             over: true,
         };
     }
-    let words = bytes::word_at(image, 0) as usize / 4;
-    load::load_words(image, 6, words, program);
+    let payload = part::part_at(image, 0);
+    let words = payload.len() / 4;
+    load::load_words(payload, 0, words, program);
     let at = load_store(image, store);
     let machine = reset::zero_record(store);
     let len = lines::put_header(buf, 0);

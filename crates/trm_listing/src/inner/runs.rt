@@ -7,11 +7,13 @@ ghost use Prim.Native.Nat.{_+_, _≤_, _<_};
 ghost use lib.ListN.{length};
 ghost use Rattle.trm_word.specs.Charge.{charges};
 ghost use Rattle.trm_cache.specs.Cache.{cache};
+ghost use Rattle.trm_image.specs.Records.{lengthAt};
 ghost use Rattle.trm_image.specs.Refused.{countAt, lineAt, inputAt};
 ghost use Rattle.trm_lines.specs.Onward.{lentOf, Able, Onward};
 ghost use Rattle.trm_listing.specs.Rest.{heldBy, Stands, Along};
 use trm_core::record::Scalars;
 use trm_image::inner::bytes;
+use trm_image::inner::part;
 use trm_lines::inner::clocks;
 use trm_lines::inner::listed::Listed;
 use trm_steps::inner::interrupt;
@@ -88,9 +90,9 @@ fn run_clocks(
     )
 }
 
-// The next record, a run.
+// The next record, a run: its payload's nine bytes.
 fn next_run(q: Place, image: &[u8]) -> Place
-    requires { ⌜ q .at ≤ 65536 ⌝ }
+    requires { ⌜ (lengthAt (now image) (q .at) ≡ 9) × (q .at + 15 ≤ length (now image)) ⌝ }
     ensures { λ r. ⌜ r ≡ record {
       listed = record {
         scalars = q .listed .scalars;
@@ -104,9 +106,10 @@ fn next_run(q: Place, image: &[u8]) -> Place
     } ⌝ }
 {
     let at = q.at;
-    let count = bytes::word_at(image, at + 6);
-    let line = bytes::byte_at(image, at + 10);
-    let input = bytes::word_at(image, at + 11);
+    let payload = part::part_at(image, at);
+    let count = bytes::word_at(payload, 0);
+    let line = bytes::byte_at(payload, 4);
+    let input = bytes::word_at(payload, 5);
     let l = q.listed;
     let c = l.scalars;
     let listed = Listed {

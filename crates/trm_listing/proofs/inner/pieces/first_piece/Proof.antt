@@ -1,26 +1,17 @@
 -- The proof of trm_listing::inner::pieces::first_piece.
-use mathlib.Core.Bool.{false}
-use lib.ListN.{replicate}
-use Rattle.trm_listing.proofs.Laws.Whole.{output-refused, program-is, program-array}
-use Rattle.trm_listing.proofs.Laws.Whole.{program-whole, taken, output-begun, begun-stands}
-use lib.ListN.{replicate}
-use Rattle.trm_listing.proofs.Laws.Whole.{output-refused, program-is, program-array}
-use Rattle.trm_listing.proofs.Laws.Whole.{program-whole, taken, output-begun, begun-stands}
-use Rattle.trm_listing.proofs.Laws.Whole.{output-refused, program-is, program-whole, output-begun, begun-stands}
+use Prim.Native.Nat.{_/_}
 use mathlib.Core.Path.{_≡_, refl, sym, ap, _∙_}
+use mathlib.Core.Bool.{false}
 use native.Mathlib.Omega.{arith}
-use Prim.Native.Nat.{_-_, _/_}
-use mathlib.Core.List.{_++_}
-use lib.ListN.{replicate}
 use lib.Dec.{eqb}
 use borrow.Author.Tests.{eqb-true, not-true, not-false}
 use Rattle.trm_laws.proofs.Tests.{clash}
-use Rattle.trm_image.specs.Records.{wordsAt}
 use Rattle.trm_image.specs.Refused.{imageFault}
 use Rattle.trm_image.proofs.Laws.Accepted.{accepted-head}
 use Rattle.trm_listing.specs.Rest.{pinsLeft}
 use Rattle.trm_listing.specs.Pieces.{restOf}
-use Rattle.trm_listing.proofs.Laws.Whole.{output-refused, program-is, output-begun, begun-stands}
+use Rattle.trm_listing.proofs.Laws.Whole.{output-refused, program-is, program-array, program-whole}
+use Rattle.trm_listing.proofs.Laws.Whole.{part-long, program-read, taken, output-begun, begun-stands}
 use borrow.Author.Needs.{needs}
 use Rattle.trm_listing.proofs.inner.pieces.first_piece.Statement.{statement}
 use Rattle.trm_listing.proofs.inner.pieces.first_piece.Tie as tie
@@ -84,29 +75,20 @@ returns c =
           .before .before .put-refused .ensures .0 .long;
     }
 
-word-at-requires : tie.Need-word-at-requires
-word-at-requires c κs = search needs
-
-cast-words : tie.Need-cast-words
-cast-words c = search needs
+part-at-requires : tie.Need-part-at-requires
+part-at-requires c κs =
+    let ok : imageFault 2048 (c .before .before .before .before .before .before .before .args .image .now) .number ≡ 0 = sym
+    (c .before .before .check .ensures .number) ∙ eqb-true _ 0 (sym (c .before .accepted .ensures) ∙ not-false _ (c .if1 .left)) in
+    accepted-head 2048 _ ok .whole
 
 load-words-requires : tie.Need-load-words-requires
 unfolding restOf pinsLeft
 load-words-requires c κs =
-    let ok : imageFault 2048 (c .before .before .before .before .before .before .before .before .before .args .image .now) .number ≡
-    0 = sym (c .before .before .before .before .check .ensures .number) ∙ eqb-true _ 0 (sym
-    (c .before .before .before .accepted .ensures) ∙ not-false _ (c .before .before .if1 .left)) in
-    let h = accepted-head 2048 _ ok in (
-      omega arith,
-      omega (
-        arith,
-        c .before .word-at .ensures,
-        h .long,
-        c .before .before .before .before .before .before .before
-            .before .before .pre .0,
-      ),
-      omega (arith, c .before .before .before .before .before .before .before .before .before .pre .0),
-    )
+    let entry = c .before .before .before .before .before .before .before .before .before in
+    let ok : imageFault 2048 (entry .args .image .now) .number ≡ 0 = sym (c .before .before .before .before .check .ensures .number)
+    ∙ eqb-true _ 0 (sym (c .before .before .before .accepted .ensures) ∙ not-false _ (c .before .before .if1 .left)) in
+    let l = part-long _ ok _ (c .before .part-at .ensures) in
+    (omega arith, omega (arith, l, accepted-head 2048 _ ok .long, entry .pre .0), omega (arith, entry .pre .0))
 
 load-store-requires : tie.Need-load-store-requires
 unfolding restOf pinsLeft
@@ -143,71 +125,31 @@ same-length-5 c = search needs
 returns-2 : tie.Need-returns-2
 unfolding restOf pinsLeft
 returns-2 c =
-    let ok : imageFault 2048 (c .before .before .before .before .before .before .before .before .before .before .before .before
-    .before .before .before .before .before .before .before .before .before .before .args .image .now) .number ≡ 0 = sym
-    (c .before .before .before .before .before .before .before .before .before .before .before .before .before .before .before
-    .before .before .check .ensures .number) ∙ eqb-true _ 0 (sym
-    (c .before .before .before .before .before .before .before .before .before .before .before .before .before .before .before
-    .before .accepted .ensures) ∙ not-false _ (c .before .before .before .before .before .before .before .before .before .before
-    .before .before .before .before .before .if1 .left)) in
-    let n = ap (λ w. w / 4) (c .before .before .before .before .before .before .before .before .before .before .before .before
-    .before .before .word-at .ensures) in
-    let is = program-is _ ok _ _ n (c .before .before .before .before .before .before .before .before .before .before .before .before
-    .load-words .ensures ∙ ap (λ k. wordsAt (c .before .before .before .before .before .before .before .before .before .before
-    .before .before .before .before .before .before .before .before .before .before .before .before .args .image .now) 6
-    (c .before .before .before .before .before .before .before .before .before .before .before .before .before .before .word-at
-    .result / 4) ++ replicate (k - c .before .before .before .before .before .before .before .before .before .before .before
-    .before .before .before .word-at .result / 4) 0) (c .before .before .before .before .before .before .before .before .before
-    .before .before .before .before .before .before .before .before .before .before .before .before .before .pre .0)) in
+    let c10 = c .before .before .before .before .before .before .before .before .before .before in
+    let entry = c10 .before .before .before .before .before .before .before .before .before .before .before .before in
+    let image = entry .args .image .now in
+    let ok : imageFault 2048 image .number ≡ 0 = sym (c10 .before .before .before .before .before .before .before .check .ensures
+    .number) ∙ eqb-true _ 0 (sym (c10 .before .before .before .before .before .before .accepted .ensures) ∙ not-false _
+    (c10 .before .before .before .before .before .if1 .left)) in
+    let part = c10 .before .before .before .before .part-at .ensures in
+    let l = part-long image ok _ part in
+    let n = ap (λ k. k / 4) l in
+    let read = program-read image ok _ part _ _ (entry .pre .0) (c10 .before .before .load-words .ensures) in
+    let is = program-is image ok _ _ n read in
     let ld = c .before .before .before .before .before .before .before .before .load-store .ensures in
-    let program-long = program-whole (c .before .before .before .before .before .before .before .before .before .before .before
-    .before .before .before .before .before .before .before .before .before .before .before .args .image .now) ok
-    (c .before .before .before .before .before .before .before .before .before .before .before .before .before .before .word-at
-    .result / 4) _ n (c .before .before .before .before .before .before .before .before .before .before .before .before
-    .load-words .ensures ∙ ap (λ k. wordsAt (c .before .before .before .before .before .before .before .before .before .before
-    .before .before .before .before .before .before .before .before .before .before .before .before .args .image .now) 6
-    (c .before .before .before .before .before .before .before .before .before .before .before .before .before .before .word-at
-    .result / 4) ++ replicate (k - c .before .before .before .before .before .before .before .before .before .before .before
-    .before .before .before .word-at .result / 4) 0) (c .before .before .before .before .before .before .before .before .before
-    .before .before .before .before .before .before .before .before .before .before .before .before .before .pre .0)) in
+    let program-long = program-whole image ok _ _ n read in
     let h = accepted-head 2048 _ ok in
     record {
       text = output-begun _ ok _ is _ _ (c .before .before .before .before .zero-record2 .ensures) _ ld 0 0 0 refl _ _ _
           (c .before .before .put-header .ensures .0);
-      ready = λ _. begun-stands _ ok _ is _ _
-          (c .before .before .before .before .zero-record2 .ensures) _ ld (ld .long);
-      fits = omega (
-        arith,
-        c .before .before .put-header .ensures .1,
-        c .before .before .put-header .ensures .0 .long,
-        c .before .before .before
-            .before .before .before .before .before .before .before .before .before .before .before .before .before .before .before
-            .before .before .before .before .pre .2,
-      );
-      words = omega (
-        arith,
-        c .before .before .before .before .before .before .before
-            .before .before .before .before .before .before .before .word-at .ensures,
-        h .long,
-        program-long,
-      );
-      program-is = program-array
-          (c .before .before .before .before .before .before .before .before .before .before .before .before .before .before .before
-          .before .before .before .before .before .before .before .args .image .now) ok
-          (c .before .before .before .before .before .before .before .before .before .before .before .before .before .before .word-at
-          .result / 4) _ _ n (c .before .before .before .before .before .before .before .before .before .before .before .before
-          .load-words .ensures ∙ ap (λ k. wordsAt (c .before .before .before .before .before .before .before .before .before .before
-          .before .before .before .before .before .before .before .before .before .before .before .before .args .image .now) 6
-          (c .before .before .before .before .before .before .before .before .before .before .before .before .before .before .word-at
-          .result / 4) ++ replicate (k - c .before .before .before .before .before .before .before .before .before .before .before
-          .before .before .before .word-at .result / 4) 0) (c .before .before .before .before .before .before .before .before .before
-          .before .before .before .before .before .before .before .before .before .before .before .before .before .pre .0));
-      store-is =
-          taken _ _ _ _ ok (ld .store);
+      ready = λ _. begun-stands _ ok _ is _ _ (c .before .before .before .before .zero-record2 .ensures) _ ld (ld .long);
+      fits = omega (arith, c .before .before .put-header .ensures .1, c .before .before .put-header .ensures .0 .long, entry .pre .2);
+      words = omega (arith, l, h .long, program-long);
+      program-is = program-array image ok _ _ _ n read;
+      store-is = taken _ _ _ _ ok (ld .store);
       programmed = program-long;
       stored = ld .long;
-      long = c .before .before .put-header .ensures .0
-          .long;
+      long = c .before .before .put-header .ensures .0 .long;
     }
 
 pub first-piece-spec : {M : Type 1} → statement M
@@ -223,8 +165,7 @@ first-piece-spec =
     same-length
     same-length-2
     returns
-    word-at-requires
-    cast-words
+    part-at-requires
     load-words-requires
     load-store-requires
     zero-record-requires-2

@@ -2,7 +2,7 @@
 use mathlib.Core.Path.{sym, ap, _∙_}
 use native.Mathlib.Omega.{arith}
 use Prim.Native.Nat.{_+_}
-use Rattle.trm_listing.proofs.Laws.Load.{head, loaded-third, loaded-second, second-fits}
+use Rattle.trm_listing.proofs.Laws.Load.{head, loaded-third, second-fits, second-whole, part-long, loaded-part}
 use borrow.Author.Needs.{needs}
 use Rattle.trm_listing.proofs.inner.pieces.load_store.Statement.{statement}
 use Rattle.trm_listing.proofs.inner.pieces.load_store.Tie as tie
@@ -40,27 +40,18 @@ returns c =
     .before .before .before .before .before .word-at .ensures)) (λ z. c .before .before .before .before .if1 .taken (c .before
     .before .before .before .before .half-at .ensures ∙ z)) _ (c .before .before .load-words .ensures)
 
-word-at-requires-2 : tie.Need-word-at-requires-2
-word-at-requires-2 c κs = search needs
-
-cast-length : tie.Need-cast-length
-cast-length c = search needs
-
-add-load-words : tie.Need-add-load-words
-add-load-words c = search needs
+part-at-requires : tie.Need-part-at-requires
+part-at-requires c κs =
+    second-whole _ _ (c .before .before .before .before .before .pre) _ (ap (λ k. 6 + k) (c .before .before .word-at .ensures))
+    (sym (c .before .half-at .ensures) ∙ c .if1 .left)
 
 load-words-requires-2 : tie.Need-load-words-requires-2
 load-words-requires-2 c κs =
-    let h = head _ _ (c .before .before .before .before .before .before .before .pre) in
     let k = sym (c .before .before .before .half-at .ensures) ∙ c .before .before .if1 .left in
-    let f = second-fits _ _ (c .before .before .before .before .before .before .before .pre) _ (ap (λ k. 6 + k)
-    (c .before .before .before .before .word-at .ensures)) k in (
-      omega (arith, c .before .before .before .before .word-at .ensures, h .long),
-      omega
-          (arith, c .before .word-at2 .ensures, f, c .before .before .before .before .before .before .before .pre .long),
-      omega
-          (arith, c .before .before .before .before .before .before .before .pre .long),
-    )
+    let h = c .before .before .before .before .before .before .before .pre in
+    let e = ap (λ k. 6 + k) (c .before .before .before .before .word-at .ensures) in
+    let l = part-long _ _ h _ e k _ (c .before .part-at .ensures) in
+    (omega arith, omega (arith, l, second-fits _ _ h _ e k, h .long), omega (arith, h .long))
 
 add-result : tie.Need-add-result
 add-result c = search needs
@@ -75,9 +66,9 @@ returns-2 : tie.Need-returns-2
 returns-2 c =
     let k = sym (c .before .before .before .before .before .before .half-at .ensures) ∙ c .before .before .before .before .before
     .if1 .left in
-    loaded-second _ _ (c .before .before .before .before .before .before .before .before .before .before .pre) _ (ap (λ k. 6 + k)
+    loaded-part _ _ (c .before .before .before .before .before .before .before .before .before .before .pre) _ (ap (λ k. 6 + k)
     (c .before .before .before .before .before .before .before .word-at .ensures)) k _
-    (c .before .before .before .before .word-at2 .ensures) _ (c .before .before .load-words2 .ensures)
+    (c .before .before .before .before .part-at .ensures) _ (c .before .before .load-words2 .ensures)
 
 pub load-store-spec : {M : Type 1} → statement M
 load-store-spec =
@@ -91,9 +82,7 @@ load-store-spec =
     load-words-requires
     same-length
     returns
-    word-at-requires-2
-    cast-length
-    add-load-words
+    part-at-requires
     load-words-requires-2
     add-result
     add-result-2

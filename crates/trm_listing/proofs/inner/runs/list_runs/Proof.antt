@@ -8,6 +8,7 @@ use Prim.Native.Nat.{_+_, _-_, _<_}
 use lib.ListN.{length}
 use Rattle.trm_cache.specs.Cache.{cache}
 use Rattle.trm_lines.specs.Onward.{lentOf}
+use Rattle.trm_image.proofs.Laws.Runs.{runs-next}
 use Rattle.trm_listing.specs.Rest.{Along}
 use Rattle.trm_listing.proofs.Laws.Along.{along-none, along-then, along-next}
 use Rattle.trm_listing.proofs.inner.runs.list_runs.Statement.{statement}
@@ -61,7 +62,8 @@ returns c = (
 
 next-run-requires : tie.Need-next-run-requires Inv-loop μ-loop
 next-run-requires c κs =
-    omega (arith, c .before .before .if1 .taken, c .before .before .before .before .loop .inv .0 .stands .small)
+    let n = runs-next 2048 _ _ (c .before .before .before .before .loop .inv .0 .stands .runs) (c .before .before .if1 .taken) in
+    (n .nine, n .whole)
 
 run-here-requires-2 : tie.Need-run-here-requires-2 Inv-loop μ-loop
 run-here-requires-2 c κs =
