@@ -2,7 +2,7 @@
 -- `Words`: words one after another; `Parts`: a payload as a part of the image; `Clean`: a record without a fault; `Walk`: record after
 -- record; `Places`: where records begin; `Runs`: runs to the end; `Accepted`: an accepted image; `Load`: words put into an array;
 -- `First`: the first fault; `Bytes`, `Written`, `Described`: an accepted image written out; `Readback`, `Unfaulted`, `Complete`: what is
--- written out is accepted and read; `Tables`: the table of images.
+-- written out is accepted and read; `Tables`: the tables of images and payloads.
 -- Assumes nothing.
 pub mod Words
 pub mod Parts

@@ -5,7 +5,7 @@ use Rattle.trm_image.specs.Claims.{Claims}
 use Rattle.trm_image.proofs.Laws.First.{refused-first}
 use Rattle.trm_image.proofs.Laws.Described.{accepted-described}
 use Rattle.trm_image.proofs.Laws.Complete.{written-accepted}
-use Rattle.trm_image.proofs.Laws.Tables.{cases-hold}
+use Rattle.trm_image.proofs.Laws.Tables.{cases-hold, payloads-given}
 
 pub theorems : Claims
 theorems =
@@ -14,4 +14,5 @@ theorems =
       accepted-described = accepted-described;
       written-accepted = written-accepted;
       cases-hold = cases-hold;
+      payloads-given = payloads-given;
     }

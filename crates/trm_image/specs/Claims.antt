@@ -14,6 +14,7 @@ use Rattle.trm_image.specs.Records.{kindAt, recordsOf}
 use Rattle.trm_image.specs.Refused.{faultAt, imageFault}
 use Rattle.trm_image.specs.Meaning.{Image, imageOf}
 use Rattle.trm_image.specs.Cases.{CasesHold}
+use Rattle.trm_image.specs.Payloads.{PayloadsGiven}
 use Rattle.trm_image.specs.Written.{imageBytes, Meant}
 
 -- the kind of the last record that begins at one of these places, 0 if there is none
@@ -70,3 +71,4 @@ pub record Claims : Type 0 where
   pub accepted-described : AcceptedDescribed
   pub written-accepted : WrittenAccepted
   pub cases-hold : CasesHold
+  pub payloads-given : PayloadsGiven

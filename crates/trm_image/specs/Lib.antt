@@ -9,4 +9,5 @@ pub mod Meaning
 pub mod Runs
 pub mod Written
 pub mod Cases
+pub mod Payloads
 pub mod Claims
