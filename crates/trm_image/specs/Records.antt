@@ -39,6 +39,7 @@ begins (suc skip) at (b ∷ bs) = begins skip (suc at) bs
 unfoldable pub recordsOf : List ℕ → List ℕ
 recordsOf s = begins 0 0 s
 
+-- whether this is one of the places
 unfoldable pub among : ℕ → List ℕ → Bool
 among at [] = false
 among at (b ∷ bs) = eqb at b || among at bs

@@ -53,7 +53,7 @@ wordWrong s at = eqb (kindAt s at) 1 && not (allAtMost 0x3FFFF (wordsAt s (at + 
 unfoldable pub lineWrong : List ℕ → ℕ → Bool
 lineWrong s at = eqb (kindAt s at) 3 && ltb 7 (lineAt s at)
 
--- 4: "length no power of two in 64–32,768", for a reader that is told a length that no store has; it falls on the first record
+-- down the table; 4: "length no power of two in 64–32,768", of the length that the reader is told, so it falls on the first record
 unfoldable pub faultAt : ℕ → List ℕ → ℕ → ℕ → ℕ
 faultAt n s before at =
     cond (cutShort s at) 1
@@ -83,8 +83,8 @@ imageFault n s =
     (cond (eqb (length s) 0) (record { number = 2; at = 0 })
     (firstFault n s 0 (recordsOf s)))
 
--- 1: "over 65,536 bytes"; 2 where no record of the image begins; 1: "a record cut short". The last is asked of a record of the image only:
--- a place where none begins has no record that could be cut short.
+-- 1: "over 65,536 bytes"; 2: "kind unknown", where no record of the image begins; 1: "a record cut short". Row 1 is asked again after
+-- row 2, of the record at that place: where none begins there is none that could be cut short.
 unfoldable pub payloadFault : List ℕ → ℕ → ℕ
 payloadFault s at =
     cond (ltb 65536 (length s)) 1
