@@ -1,15 +1,15 @@
 -- Whether a record begins at a place: the walk from record to record, and what is known of a payload that is not refused.
 -- Idea: the records from a place on are the one there and those from its end on.
 -- Assumes nothing.
-use Prim.Native.Nat.{ℕ, zero, suc, _+_, _-_, _≤_, _<_}
+use Prim.Native.Nat.{ℕ, zero, suc, _+_, _≤_, _<_}
 use mathlib.Core.Path.{_≡_, refl, sym, _∙_}
-use mathlib.Core.Bool.{Bool, true, false, not, _||_}
+use mathlib.Core.Bool.{Bool, true, false, not}
 use mathlib.Core.List.{List, []}
 use native.Mathlib.Omega.{arith}
 use native.Mathlib.Decide.{decLt}
 use lib.ListN.{length, drop}
 use lib.Dec.{eqb, ltb}
-use borrow.Author.Tests.{ltb-false, eqb-true, eq-eqb, ne-eqb, not-false}
+use borrow.Author.Tests.{eqb-true, eq-eqb, ne-eqb, not-false}
 use Rattle.trm_laws.proofs.Tests.{clash}
 use Rattle.trm_image.specs.Records.{lengthAt, payloadAt, begins, recordsOf, among, recordAt}
 use Rattle.trm_image.specs.Refused.{cutShort, payloadFault}

@@ -1,9 +1,7 @@
 -- The examples' listings, computed by the checker.
 -- Idea: one test computes all rows, and a test that computes to true gives the equations.
 -- Assumes nothing.
-use Prim.Native.Nat.{ℕ}
 use mathlib.Core.Path.{refl}
-use mathlib.Core.List.{List}
 use Rattle.trm_laws.proofs.Table.{same, test, test-true}
 use Rattle.trm_word.specs.Address.{storeLengthOk}
 use Rattle.trm_alu.specs.Word.{signed, word}
@@ -37,7 +35,7 @@ use Rattle.trm_text.specs.Numbers.{digits, places, decimal, hex}
 use Rattle.trm_text.specs.Lines.{shownBytes, lineBytes, linesBytes, endBytes, refusedBytes}
 use Rattle.trm_lines.specs.Lines.{interruptAt, carriesOut, lineOf as shownBy, tookAfter, linesFrom, endLine}
 use Rattle.trm_listing.specs.Listing.{pinsOfRuns, firstStore, startOf, linesOf, finalOf, listingOf, outputOf}
-use Rattle.trm_listing.specs.Examples.{Example, paperExample, interruptExample, cacheExample, refusedExample, examples}
+use Rattle.trm_listing.specs.Examples.{paperExample, interruptExample, cacheExample, refusedExample, examples}
 use Rattle.trm_listing.specs.Examples.{AllListed, ExamplesHold}
 
 pub examples-hold : ExamplesHold
