@@ -395,8 +395,30 @@ def order(s):
     s.run(6, 65537, more=(0, -1, -1), at=65535)
 
 
+# ---- cases that name what is not there: nothing is shown, and nothing changes
+
+def nowhere(s):
+    s.head('a step more than 32, A not above 0')
+    s.line('D', 33, 5, 0, answer='00000000 00000000')  # "for A at or below 0 both hold zero"
+    s.head('no operation 16')
+    s.line('T', 16)
+    s.head('no field 209')
+    fresh(s, NEVER, pc=7)
+    s.line('F', 209, 0, 1)
+    s.line('V', 209, answer='0')
+    s.clock(0)                                # its digest shows all of the record
+    s.head('no word 65,536 of the store')
+    s.fill(1, 65534, 2, 0x1234)
+    s.line('J', 1, 65535, 3, 0x5678)
+    s.store[65535] = 0x5678
+    s.lend(1, 65536)
+    for at in (65533, 65534, 65535):
+        s.show_word(at)
+    s.line('H', 65536)
+
+
 PARTS = [starred_addresses, starred_cache, lengths, listing, clock_table, misreadings, begin,
-         row_3, row_4, row_5, row_6, row_7, row_8, row_9, order]
+         row_3, row_4, row_5, row_6, row_7, row_8, row_9, order, nowhere]
 
 
 def script(starred):
