@@ -28,7 +28,7 @@ extern "C" {
 #endif
 
 /* The version of the record and of this interface; trm_record_version() gives that of the library that was linked. */
-#define TRM_RECORD_VERSION 1u
+#define TRM_RECORD_VERSION 2u
 
 /* The refusals; the number is the row of the paper's table. */
 enum {

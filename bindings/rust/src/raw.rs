@@ -4,7 +4,7 @@
 #![allow(unsafe_code)]
 
 /// The version of the record and of this interface that this package is written for; see [`record_version`].
-pub const RECORD_VERSION: u32 = 1;
+pub const RECORD_VERSION: u32 = 2;
 
 /// Line byte: interrupt 0.
 pub const LINE_INTERRUPT_0: u8 = 1;

@@ -18,7 +18,7 @@ use Rattle.trm_core.specs.declared.watch.Sighting.{Sighting}
 use Rattle.trm_core.specs.declared.watch.Sighting.the-variants.{Clock, Nowhere}
 use Rattle.trm_core.specs.Run.{Ran}
 use Rattle.trm_engine.specs.declared.machine.Machine.{Machine}
-use Rattle.trm_engine.specs.Machine.{recordOf, lent}
+use Rattle.trm_engine.specs.Machine.{recordOf, lent, parts}
 use Rattle.trm_calls.specs.Promises.{pins, resetGives, clockGives, runGives}
 use Rattle.trm_inspect.specs.Promises.{lookGives, copyGives}
 use Rattle.trm_image.specs.Refused.{imageFault, payloadFault}
@@ -27,6 +27,7 @@ use Rattle.trm.specs.declared.answer.ResetAnswer.{ResetAnswer}
 use Rattle.trm.specs.declared.answer.ClockAnswer.{ClockAnswer}
 use Rattle.trm.specs.declared.answer.LentAnswer.{LentAnswer}
 use Rattle.trm.specs.declared.answer.RunAnswer.{RunAnswer}
+use Rattle.trm.specs.declared.inner.placed.Placed.{Placed}
 use Rattle.trm.specs.declared.answer.LookAnswer.{LookAnswer}
 use Rattle.trm.specs.declared.answer.WatchAnswer.{WatchAnswer}
 use Rattle.trm.specs.declared.image.ImageAnswer.{ImageAnswer}
@@ -40,6 +41,17 @@ clocked r s = record { state = lent (r .machine) s; out = record { byte = r .byt
 abbrev pub withRecord : Machine → LentAnswer → ClockAnswer
 withRecord m r =
     record { machine = m; number = r .number; byte = r .byte; word = r .word; finished = r .finished }
+
+-- the answer of a clock on the parts of a record, with the arrays as they are left
+abbrev pub withParts : Placed → List ℕ → List ℕ → List ℕ → List ℕ → List ℕ → ClockAnswer
+withParts r rs f d b ws =
+    record {
+      machine = parts (r .scalars) rs f d b ws;
+      number = r .number;
+      byte = r .byte;
+      word = r .word;
+      finished = r .finished;
+    }
 
 abbrev pub ran : RunAnswer → List ℕ → List ℕ → List ℕ → Ran
 ran r s bytes words =

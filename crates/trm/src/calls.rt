@@ -25,7 +25,7 @@ pub extern "C" fn trm_reset(store: &[u32]) -> ResetAnswer
     }
 }
 
-// One clock: a run of one. The lent entry alone calls `numbered::clock`, so that the compiler can put it there.
+// One clock.
 #[no_mangle]
 pub extern "C" fn trm_clock_value(
     m: Machine,
@@ -36,18 +36,14 @@ pub extern "C" fn trm_clock_value(
 ) -> ClockAnswer
     ensures { λ r. ⌜ ClockNumbered m (now (program .entry)) (now (store .entry)) line input r (now (store .exit)) ⌝ }
 {
-    let lines = [line; 1];
-    let inputs = [input; 1];
-    let mut bytes = [0u8; 1];
-    let mut words = [0u32; 1];
-    let r = trm_calls::calls::run(m, program, store, &lines, &inputs, &mut bytes, &mut words);
+    let r = trm_calls::calls::clock(m, program, store, line, input);
     let refused = r.refused;
     let machine = r.machine;
     ClockAnswer {
         machine: machine,
         number: number::number_of(refused),
-        byte: bytes[0],
-        word: words[0],
+        byte: r.byte,
+        word: r.word,
         finished: r.finished, // 0 or 1
     }
 }

@@ -3,7 +3,6 @@
 // They are `check` and `payload` of trm_image, with the number in place of the enum and with a part told by its start and length.
 ghost use Rattle.trm.specs.Promises.{ImageNumbered, PayloadPart};
 use trm_image::inner::number;
-use trm_image::inner::part;
 use trm_image::reader;
 
 // `at` is the byte where the record at fault begins; 0 if there is none: accepted, too long or empty.
@@ -40,6 +39,7 @@ pub extern "C" fn trm_image_payload(image: &[u8], at: usize) -> PartAnswer
     ensures { λ r. ⌜ PayloadPart (now (image .entry)) at r ⌝ }
 {
     let fault = reader::payload_fault(image, at);
+    let payload = reader::payload(image, at);
     if !reader::accepted(fault) {
         return PartAnswer {
             number: number::number_of(fault),
@@ -47,7 +47,6 @@ pub extern "C" fn trm_image_payload(image: &[u8], at: usize) -> PartAnswer
             length: 0,
         };
     }
-    let payload = part::part_at(image, at);
     PartAnswer {
         number: 0,
         start: (at + 6) as u64,

@@ -15,5 +15,5 @@ pub extern "C" fn trm_record_size() -> usize
 pub extern "C" fn trm_record_version() -> u32
     ensures { λ r. ⌜ r ≡ recordVersion ⌝ }
 {
-    1
+    2
 }

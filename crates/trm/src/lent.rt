@@ -1,8 +1,7 @@
 // The second entry: the record itself is lent for one clock.
 // Paper: "Later a second entry lends the record itself for one clock, with the same outcome".
-// It calls the clock that takes the record by value and stores what comes back; its proof is by hand.
+// It lends the record's arrays to the covered clock and stores the scalars that come back; its proof is by hand.
 ghost use Rattle.trm.specs.Promises.{ClockNumbered, withRecord};
-use crate::answer::ClockAnswer;
 use crate::answer::LentAnswer;
 use trm_engine::machine::Machine;
 
@@ -18,8 +17,19 @@ pub extern "C" fn trm_clock(
     ensures { λ r. ⌜ ClockNumbered (now (m .entry)) (now (program .entry)) (now (store .entry)) line input
         (withRecord (now (m .exit)) r) (now (store .exit)) ⌝ }
 {
-    let r = crate::numbered::clock(*m, program, store, line, input);
-    *m = r.machine;
+    let r = crate::inner::placed::clock(
+        m.scalars,
+        program,
+        &mut m.regs,
+        &mut m.full,
+        &mut m.dirty,
+        &mut m.block,
+        &mut m.words,
+        store,
+        line,
+        input,
+    );
+    m.scalars = r.scalars;
     LentAnswer {
         number: r.number,
         byte: r.byte,

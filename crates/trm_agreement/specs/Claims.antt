@@ -22,7 +22,7 @@ use Rattle.trm_engine.specs.declared.machine.Machine.{Machine}
 use Rattle.trm_engine.specs.Machine.{recordOf, lent}
 use Rattle.trm_engine.proofs.machine.Machine.{the-type}
 use Rattle.trm_calls.specs.declared.answer.Reset.{Reset}
-use Rattle.trm_calls.specs.declared.answer.Clock.{Clock}
+use Rattle.trm_engine.specs.declared.answer.Clock.{Clock}
 use Rattle.trm_calls.specs.declared.answer.Run.{Run}
 use Rattle.trm_agreement.specs.Log.{clocksOf, entries, calls, logOf, clockedIn, answersIn, fedOf, stateOf}
 use Rattle.trm_agreement.specs.Calls.{Call, runCall, feed, answer, runEnds, recordSeen, recordEngine, referenceEngine}

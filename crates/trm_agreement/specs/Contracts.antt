@@ -15,7 +15,7 @@ use borrow.Fn.World.{ArgsD, ResD}
 use borrow.Fn.Read.{all-models, r-last, no-know}
 use Rattle.trm_engine.specs.declared.machine.Machine.{Machine}
 use Rattle.trm_calls.specs.declared.answer.Reset.{Reset}
-use Rattle.trm_calls.specs.declared.answer.Clock.{Clock}
+use Rattle.trm_engine.specs.declared.answer.Clock.{Clock}
 use Rattle.trm_calls.specs.declared.answer.Run.{Run}
 use Rattle.trm_calls.proofs.calls.reset.Reads as reset-reads
 use Rattle.trm_calls.proofs.calls.clock.Reads as clock-reads

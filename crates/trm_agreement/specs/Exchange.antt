@@ -20,7 +20,7 @@ use Rattle.trm_refusals.specs.Numbers.{numberOf as refusalNumber}
 use Rattle.trm_engine.specs.declared.machine.Machine.{Machine}
 use Rattle.trm_engine.specs.Machine.{lent}
 use Rattle.trm_calls.specs.declared.answer.Reset.{Reset}
-use Rattle.trm_calls.specs.declared.answer.Clock.{Clock}
+use Rattle.trm_engine.specs.declared.answer.Clock.{Clock}
 use Rattle.trm_calls.specs.declared.answer.Run.{Run}
 use Rattle.trm.specs.declared.answer.ResetAnswer.{ResetAnswer}
 use Rattle.trm.specs.declared.answer.ClockAnswer.{ClockAnswer}

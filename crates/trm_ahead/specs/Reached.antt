@@ -73,7 +73,7 @@ pub record Room (g : Going) (r : Clocked) (bs ws : List ℕ) : Type 0 where
   pub broad : g .at < length ws
   pub many : g .at ≤ 65536
   pub few : g .finished ≤ 65536
-  pub done : r .done ≤ 1
+  pub finished : r .finished ≤ 1
   pub byte : getD bs (g .at) 0 ≡ 0
   pub word : getD ws (g .at) 0 ≡ 0
   pub mute : r .byte ≡ 0 → r .word ≡ 0

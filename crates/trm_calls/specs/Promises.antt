@@ -18,9 +18,9 @@ use Rattle.trm_core.specs.Refusals.{resetRefusal, clockRefusal, runRefusal}
 use Rattle.trm_core.specs.Run.{Ran, runOf}
 use Rattle.trm_refusals.specs.Numbers.{numberOf}
 use Rattle.trm_engine.specs.declared.machine.Machine.{Machine}
-use Rattle.trm_engine.specs.Machine.{recordOf, lent}
+use Rattle.trm_engine.specs.declared.answer.Clock.{Clock}
+use Rattle.trm_engine.specs.Machine.{recordOf, lent, clocked}
 use Rattle.trm_calls.specs.declared.answer.Reset.{Reset}
-use Rattle.trm_calls.specs.declared.answer.Clock.{Clock}
 use Rattle.trm_calls.specs.declared.answer.Run.{Run}
 
 abbrev pub pins : ℕ → ℕ → Pins
@@ -45,9 +45,6 @@ runGives p x lines inputs bytes words =
     (record { state = x; used = 0; finished = 0; bytes = bytes; words = words })
 
 -- what is returned and left, put together
-abbrev pub clocked : Clock → List ℕ → After Lent Answer
-clocked r s = record { state = lent (r .machine) s; out = record { byte = r .byte; word = r .word; done = r .finished } }
-
 abbrev pub ran : Run → List ℕ → List ℕ → List ℕ → Ran
 ran r s bytes words =
     record { state = lent (r .machine) s; used = r .used; finished = r .finished; bytes = bytes; words = words }

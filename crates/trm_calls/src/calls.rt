@@ -2,9 +2,9 @@
 // Paper: "Checks go down the table .. It returns the number only and writes nothing".
 // The refusal is told first; nothing is touched before it is known that there is none.
 ghost use Rattle.trm_calls.specs.Promises.{ResetHolds, ClockHolds, RunHolds};
-use crate::answer::Clock;
 use crate::answer::Reset;
 use crate::answer::Run;
+use trm_engine::answer::Clock;
 use trm_engine::inner::start;
 use trm_engine::machine::Machine;
 use trm_refusals::inner::calls;
@@ -60,15 +60,7 @@ pub fn clock(m: Machine, program: &[u32], store: &mut [u32], line: u8, input: u3
             finished: 0,
         };
     }
-    let t = m.clock(program, store, line, input);
-    let machine = t.machine;
-    Clock {
-        machine: machine, // as the clock leaves it
-        refused: refused,
-        byte: t.byte,
-        word: t.word,
-        finished: t.done,
-    }
+    m.clock(program, store, line, input)
 }
 
 // One clock for each line byte.

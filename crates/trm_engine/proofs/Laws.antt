@@ -6,3 +6,4 @@ pub mod Clear
 pub mod Shape
 pub mod One
 pub mod Begun
+pub mod Step

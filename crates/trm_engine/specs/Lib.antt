@@ -2,3 +2,4 @@
 -- Paper: "Clock by clock"; what a clock does is trm_core's `clockOf`.
 -- Assumes nothing.
 pub mod Machine
+pub mod Next

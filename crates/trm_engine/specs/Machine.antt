@@ -1,7 +1,8 @@
 -- The record of the code as the record of the definitions, and the outcome of a clock and of a run.
 -- Paper: "The clock call takes the record and returns it".
 -- Assumes nothing.
---   recordOf m   the record of trm_core        lent m s   with its store        ticked, ranTo   what a clock and a run leave and answer
+--   recordOf m   the record of trm_core        lent m s   with its store        parts   a record from its parts
+--   clocked, ranTo   what a clock and a run leave and answer
 use Prim.Native.Nat.{ℕ}
 use mathlib.Core.List.{List}
 use Rattle.trm_reference.specs.Access.{Answer}
@@ -10,10 +11,10 @@ use Rattle.trm_cache.specs.Cache.{cache}
 use Rattle.trm_core.specs.Record as core
 use Rattle.trm_core.specs.Record.{Lent, whole}
 use Rattle.trm_engine.specs.declared.machine.Machine.{Machine}
-use Rattle.trm_engine.specs.declared.inner.methods.Ticked.{Ticked}
+use Rattle.trm_engine.specs.declared.answer.Clock.{Clock}
 use Rattle.trm_engine.specs.declared.inner.methods.Finished.{Finished}
 use Rattle.trm_core.specs.Run.{Ran}
-use Rattle.trm_core.specs.declared.record.Running.{Running}
+use Rattle.trm_core.specs.declared.record.Scalars.{Scalars}
 
 abbrev pub recordOf : Machine → core.Machine
 recordOf m = whole (m .scalars) (m .regs) (cache (m .full) (m .dirty) (m .block) (m .words))
@@ -23,11 +24,11 @@ abbrev pub lent : Machine → List ℕ → Lent
 lent m s = record { machine = recordOf m; store = s }
 
 -- what a clock leaves and answers, from the record that it hands back
-abbrev pub ticked : Ticked → List ℕ → After Lent Answer
-ticked r s =
+abbrev pub clocked : Clock → List ℕ → After Lent Answer
+clocked r s =
     record {
       state = record { machine = recordOf (r .machine); store = s };
-      out = record { byte = r .byte; word = r .word; done = r .done };
+      out = record { byte = r .byte; word = r .word; done = r .finished };
     }
 
 -- and from that of a run: the clocks used, and the buffers as they are left
@@ -41,25 +42,6 @@ ranTo r used s bytes words =
       words = words;
     }
 
--- the record with other registers in flight
-abbrev pub withRunning : Machine → Running → Machine
-withRunning m r =
-    record {
-      scalars = record {
-        pc = m .scalars .pc;
-        h = m .scalars .h;
-        n = m .scalars .n;
-        z = m .scalars .z;
-        c = m .scalars .c;
-        v = m .scalars .v;
-        status = m .scalars .status;
-        running = r;
-        size = m .scalars .size;
-        counts = m .scalars .counts;
-      };
-      regs = m .regs;
-      full = m .full;
-      dirty = m .dirty;
-      block = m .block;
-      words = m .words;
-    }
+-- a record from its parts
+abbrev pub parts : Scalars → List ℕ → List ℕ → List ℕ → List ℕ → List ℕ → Machine
+parts c rs f d b ws = record { scalars = c; regs = rs; full = f; dirty = d; block = b; words = ws }

@@ -58,9 +58,9 @@ pub record Onward (p : List ℕ) (i : Pins) (l : Listed) (x : Lent) (b : List �
 pub record Went (l : Listed) (r : Clocked) (w : ℕ) (b : List ℕ) (h : Listed) (b′ : List ℕ) : Type 0 where
   pub scalars : h .scalars ≡ r .scalars
   pub left : h .left ≡ l .left - 1
-  pub took : h .took ≡ cond (eqb (r .done) 1) 0 (l .took + 1)
+  pub took : h .took ≡ cond (eqb (r .finished) 1) 0 (l .took + 1)
   pub text : Wrote b (l .len)
-      (cond (eqb (r .done) 1)
+      (cond (eqb (r .finished) 1)
       (lineBytes (record { clock = r .scalars .counts .clocks; at = l .scalars .pc; shown = Word w; took = l .took + 1 })) [])
       b′ (h .len)
   pub fits : h .len ≤ length b′

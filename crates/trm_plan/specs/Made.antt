@@ -1,16 +1,21 @@
 -- A clock's outcome put together from its result and the parts that are lent; what is known of a last clock in phase 5.
 -- Paper: "5 needs 14 taken, 15, 11 with bit 10 set, .. LD from a device, or LD or ST with its block in the line".
 -- Assumes nothing.
---   made   what a clock leaves and answers        Late w n c rs   of a last clock in phase 5
-use Prim.Native.Nat.{ℕ, _≤_}
+--   made   what a clock leaves and answers        Late w n c rs   of a last clock in phase 5        Ends w r   a phase is about to end
+use Prim.Native.Nat.{ℕ, _+_, _≤_}
 use mathlib.Core.Path.{_≡_}
+use mathlib.Core.Logic.{_≢_}
 use mathlib.Core.Bool.{true}
 use mathlib.Core.List.{List}
-use Rattle.trm_word.specs.Fields.{operation}
+use Rattle.trm_word.specs.Fields.{operation, bit}
+use Rattle.trm_word.specs.Charge.{chargeOf}
+use Rattle.trm_reference.specs.Visible.{cacheOn}
 use Rattle.trm_reference.specs.Access.{Answer, toMemory}
 use Rattle.trm_reference.specs.Execute.{branchTaken}
+use Rattle.trm_reference.specs.Charge.{turnsCacheOff}
 use Rattle.trm_reference.specs.Trace.{After}
 use Rattle.trm_cache.specs.Cache.{Cache}
+use Rattle.trm_core.specs.declared.record.Running.{Running}
 use Rattle.trm_core.specs.declared.record.Scalars.{Scalars}
 use Rattle.trm_core.specs.Record.{Lent, gathered, whole}
 use Rattle.trm_plan.specs.declared.inner.outcome.Clocked.{Clocked}
@@ -19,10 +24,19 @@ abbrev pub made : Clocked → List ℕ → Cache → List ℕ → After Lent Ans
 made r rs ca s =
     record {
       state = record { machine = whole (r .scalars) rs ca; store = s };
-      out = record { byte = r .byte; word = r .word; done = r .done };
+      out = record { byte = r .byte; word = r .word; done = r .finished };
     }
 
 pub record Late (w n : ℕ) (c : Scalars) (rs : List ℕ) : Type 0 where
   pub many : 11 ≤ operation w
   pub taken : operation w ≡ 14 → branchTaken w (gathered c rs) ≡ true
   pub memory : operation w ≡ 13 → toMemory w (gathered c rs) n ≡ true
+  pub cached : operation w ≡ 13 → cacheOn (gathered c rs) ≡ true
+  pub clears : operation w ≡ 11 → bit 10 w ≢ 1 → turnsCacheOff w (gathered c rs) ≡ true
+
+-- the next clock, if it is not held, is the last of its phase
+pub record Ends (w : ℕ) (r : Running) : Type 0 where
+  pub steps : r .phase ≡ 1 → r .count + 1 ≡ chargeOf (operation w)
+  pub writes : r .phase ≡ 2 → r .count ≡ 9
+  pub fills : r .phase ≡ 3 → r .count ≡ 9
+  pub waits : r .phase ≡ 4 → r .count + 1 ≡ chargeOf (operation w) + 4

@@ -18,7 +18,7 @@ use Rattle.trm_refusals.specs.Numbers.{numberOf as refusalNumber}
 use Rattle.trm_engine.specs.declared.machine.Machine.{Machine}
 use Rattle.trm_engine.specs.Machine.{recordOf, lent}
 use Rattle.trm_calls.specs.declared.answer.Reset.{Reset}
-use Rattle.trm_calls.specs.declared.answer.Clock.{Clock}
+use Rattle.trm_engine.specs.declared.answer.Clock.{Clock}
 use Rattle.trm_calls.specs.declared.answer.Run.{Run}
 use Rattle.trm_calls.specs.Promises.{pins, resetGives, clockGives, runGives, ResetHolds, ClockHolds, RunHolds}
 use Rattle.trm.specs.Promises.{ResetNumbered, ClockNumbered, RunNumbered, withRecord}

@@ -3,7 +3,7 @@
 -- Assumes nothing.
 --   On   a run that stood at g stands at h, in phase k        on-none, held-on, moved-on   no clock, a held one, one that goes on
 --   fill-on, write-on, wait-on, step-on   one clock of a loop; the loop over steps goes on in Serial
-use Prim.Native.Nat.{ℕ, _+_, _-_, _/_, _%_, _≤_, _<_}
+use Prim.Native.Nat.{ℕ, _+_, _/_, _%_, _≤_, _<_}
 use mathlib.Core.Path.{_≡_, refl, sym, ap, _∙_, subst}
 use mathlib.Core.Logic.{_≢_}
 use mathlib.Core.Bool.{Bool, true, false, cond, not, _&&_}

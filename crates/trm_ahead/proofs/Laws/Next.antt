@@ -60,18 +60,18 @@ module _ (p ls is : List ℕ) (x₀ : Lent) (g : Going) (rs : List ℕ) (ca : Ca
   here = clockOf paperGeometry p (record { machine = whole (g .scalars) rs ca; store = s }) pins
 
   pub answered : (m : Clocked) (rs′ : List ℕ) (ca′ : Cache) (s′ : List ℕ) → made m rs′ ca′ s′ ≡ here → (h : Going) (bs′ ws′ : List ℕ)
-      → h ≡ record { scalars = m .scalars; at = g .at + 1; finished = g .finished + m .done }
+      → h ≡ record { scalars = m .scalars; at = g .at + 1; finished = g .finished + m .finished }
       → bs′ ≡ set bs (g .at) (m .byte) → ws′ ≡ set ws (g .at) (m .word) → Reached p ls is x₀ (point h rs′ ca′ s′) bs′ ws′
   answered m rs′ ca′ s′ e h bs′ ws′ a b c = rw (a, b, c) (step p ls is x₀ (point g rs ca s) bs ws r more (made m rs′ ca′ s′) e)
 
   pub quiet-answered : (y : Scalars) (d : ℕ) (rs′ : List ℕ) (ca′ : Cache) (s′ : List ℕ)
-      → made (record { scalars = y; byte = 0; word = 0; done = d }) rs′ ca′ s′ ≡ here
+      → made (record { scalars = y; byte = 0; word = 0; finished = d }) rs′ ca′ s′ ≡ here
       → (h : Going) → h ≡ record { scalars = y; at = g .at + 1; finished = g .finished + d } → Reached p ls is x₀ (point h rs′ ca′ s′) bs ws
   quiet-answered y d rs′ ca′ s′ e h a = rw a
       (step-quiet p ls is x₀ (point g rs ca s) bs ws r more (record { machine = whole y rs′ ca′; store = s′ }) d e)
 
   pub onward-answered : (y : Scalars) (rs′ : List ℕ) (ca′ : Cache) (s′ : List ℕ)
-      → made (record { scalars = y; byte = 0; word = 0; done = 0 }) rs′ ca′ s′ ≡ here
+      → made (record { scalars = y; byte = 0; word = 0; finished = 0 }) rs′ ca′ s′ ≡ here
       → (h : Going) → h ≡ onward g y → Reached p ls is x₀ (point h rs′ ca′ s′) bs ws
   onward-answered y rs′ ca′ s′ e h a = rw a (subst (λ f. Reached p ls is x₀
       (point (record { scalars = y; at = g .at + 1; finished = f }) rs′ ca′ s′) bs ws) (plain (g .finished))
@@ -86,7 +86,7 @@ module _ (p ls is : List ℕ) (x₀ : Lent) (g : Going) (rs : List ℕ) (ca : Ca
     broad = omega (arith, r .broad, more);
     many = omega (arith, r .below, r .feed .many);
     few = omega (arith, r .few, r .below, r .feed .many);
-    done = subst (λ (t : After Lent Answer). t .out .done ≤ 1) (sym e) (a .done);
+    finished = subst (λ (t : After Lent Answer). t .out .done ≤ 1) (sym e) (a .done);
     byte = byte-free p ls is x₀ (point g rs ca s) bs ws r more;
     word = word-free p ls is x₀ (point g rs ca s) bs ws r more;
     mute = subst (λ (t : After Lent Answer). t .out .byte ≡ 0 → t .out .word ≡ 0) (sym e) (a .mute);

@@ -21,7 +21,7 @@ use Rattle.trm_core.specs.Record.{gathered, stepping, advanced, waited}
 use Rattle.trm_steps.specs.Steps.{Serves}
 use Rattle.trm_steps.specs.Unit.{Packs}
 use Rattle.trm_plan.proofs.Laws.Facts.{Facts}
-use Rattle.trm_plan.proofs.Laws.Flight.{step-more, serial-count, packs-word}
+use Rattle.trm_plan.proofs.Laws.Flight.{step-more, packs-word}
 use Rattle.trm_ahead.specs.declared.inner.going.Going.{Going}
 use Rattle.trm_ahead.specs.declared.inner.serial.Serial.{Serial}
 use Rattle.trm_ahead.specs.Reached.{point, Under, serialAt, withSerial}
@@ -79,25 +79,23 @@ module _ (ls : List ℕ) (w : ℕ) (g : Going) (sr : Serial) (k : ℕ) (rs : Lis
   serial-facts : Facts w (length s) (withSerial (g .scalars) sr k) rs ca
   serial-facts = step-facts ls w g (served g sr k) rs ca ca s s u inv
 
-  more-steps : sr .running .count ≢ 32 → sr .running .count + 1 ≢ chargeOf (operation w)
-  more-steps z e = z (serial-count w (length s) (withSerial (g .scalars) sr k) rs ca serial-facts (inv .phase) e)
-
-  serial-on : g .at + k < length ls → sr .running .count ≢ 32 → (sr′ : Serial)
+  serial-on : g .at + k < length ls → sr .running .count + 1 ≢ chargeOf (operation w) → (sr′ : Serial)
       → sr′ ≡ cond (stalled (getD ls (g .at + k) 0)) (record { running = sr .running; held = sr .held + 1 })
       (record { running = stepping w (gathered (g .scalars) rs) (sr .running .count + 1); held = sr .held })
       → On ls w 1 g (served g sr′ (k + 1)) rs ca ca s s
   serial-on more z sr′ e =
       subst (λ i. On ls w 1 g (record { scalars = withSerial (g .scalars) sr′ (k + 1); at = i; finished = g .finished }) rs ca ca s s)
       (sym (one-more (g .at) k))
-      (step-on ls w g (served g sr k) rs ca ca s s u inv more (more-steps z) (withSerial (g .scalars) sr′ (k + 1))
+      (step-on ls w g (served g sr k) rs ca ca s s u inv more z (withSerial (g .scalars) sr′ (k + 1))
       (serial-more (g .scalars) sr sr′ k (stalled (getD ls (g .at + k) 0))
       (stepping w (gathered (g .scalars) rs) (sr .running .count + 1)) e))
 
-  pub serves : sr .running .count ≢ 32 → (a b : ℕ) → a ≡ operandA w (gathered (g .scalars) rs) → b ≡ operandB w (gathered (g .scalars) rs)
+  pub serves : sr .running .count + 1 ≢ chargeOf (operation w)
+      → (a b : ℕ) → a ≡ operandA w (gathered (g .scalars) rs) → b ≡ operandB w (gathered (g .scalars) rs)
       → Serves w (sr .running) a b
   serves z a b p q = record {
     seen = gathered (g .scalars) rs;
-    steps = step-more w (length s) (withSerial (g .scalars) sr k) rs ca serial-facts (inv .phase) (more-steps z) .1;
+    steps = step-more w (length s) (withSerial (g .scalars) sr k) rs ca serial-facts (inv .phase) z .1;
     running = inv .phase;
     first = p;
     second = q;
@@ -132,7 +130,7 @@ packed ls w g rs ca s u ph b q hb =
     (serial-facts ls w g none 0 rs ca s u (serial-begins ls w g rs ca s ph)) ph (subst (λ x. x < 2 ^ 32) q hb)
 
 pub stepped-on : (ls : List ℕ) (w : ℕ) (g : Going) (rs : List ℕ) (ca : Cache) (s : List ℕ) (r r′ : Running) (k : ℕ)
-    → Under ls w (point g rs ca s) → Stepped ls w g rs ca s r k → g .at + k < length ls → r .count ≢ 32
+    → Under ls w (point g rs ca s) → Stepped ls w g rs ca s r k → g .at + k < length ls → r .count + 1 ≢ chargeOf (operation w)
     → r′ ≡ cond (stalled (getD ls (g .at + k) 0)) r (stepping w (gathered (g .scalars) rs) (r .count + 1))
     → Stepped ls w g rs ca s r′ (k + 1)
 stepped-on ls w g rs ca s r r′ k u n more z e =

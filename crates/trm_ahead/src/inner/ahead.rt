@@ -1,11 +1,12 @@
 // Clocks of one phase one after another, held clocks among them: all but the last of a burst, of a wait.
 // Paper: "Each ten is two waits and eight words in rising order"; "4 uncached wait"; "A clock with stall set is held".
-// What such clocks find is found once; the clock that ends the phase is trm_flight's.
+// What such clocks find is found once. If a clock is left, it ends the phase, unless it is held: that one is trm_flight's.
 ghost use mathlib.Core.Path.{_≡_};
 ghost use mathlib.Core.Bool.{true, cond};
 ghost use Prim.Native.Nat.{ℕ, _+_, _*_, _≤_, _<_};
 ghost use lib.ListN.{length, getD};
-ghost use Rattle.trm_word.specs.Charge.{charges};
+ghost use Rattle.trm_word.specs.Fields.{operation};
+ghost use Rattle.trm_word.specs.Charge.{charges, chargeOf};
 ghost use Rattle.trm_reference.specs.Geometry.{paperGeometry};
 ghost use Rattle.trm_reference.specs.Interrupt.{stalled};
 ghost use Rattle.trm_cache.specs.Cache.{cache, lineAt, writeWord, fillWord};
@@ -105,7 +106,8 @@ pub fn fill_ahead(
         (now (store .entry)))
         (point r (now (regs .entry)) (cache (now (full .entry)) (now (dirty .entry)) (now (block .entry)) (now (words .exit)))
         (now (store .entry)))
-        × (r .scalars .pc ≡ g .scalars .pc) × (r .scalars .running .phase ≡ 3) × (g .at ≤ r .at) × (r .finished ≡ g .finished) ⌝ }
+        × (r .scalars .pc ≡ g .scalars .pc) × (r .scalars .running .phase ≡ 3) × (g .at ≤ r .at) × (r .finished ≡ g .finished)
+        × (r .at < length (now (lines .entry)) → r .scalars .running .count ≡ 9) ⌝ }
 {
     let b = reading::target_of(g.scalars, regs, w, store.len() as u64) / 8;
     let l = (b % 16) as usize;
@@ -174,7 +176,8 @@ pub fn write_ahead(
         (now (store .entry)))
         (point r (now (regs .entry)) (cache (now (full .entry)) (now (dirty .entry)) (now (block .entry)) (now (words .entry)))
         (now (store .exit)))
-        × (r .scalars .pc ≡ g .scalars .pc) × (r .scalars .running .phase ≡ 2) × (g .at ≤ r .at) × (r .finished ≡ g .finished) ⌝ }
+        × (r .scalars .pc ≡ g .scalars .pc) × (r .scalars .running .phase ≡ 2) × (g .at ≤ r .at) × (r .finished ≡ g .finished)
+        × (r .at < length (now (lines .entry)) → r .scalars .running .count ≡ 9) ⌝ }
 {
     let mut c = g.scalars;
     let clears = reading::turns_cache_off(c, regs, w);
@@ -239,7 +242,8 @@ pub fn wait_ahead(
         (now (store .entry)))
         (point r (now (regs .entry)) (cache (now (full .entry)) (now (dirty .entry)) (now (block .entry)) (now (words .entry)))
         (now (store .entry)))
-        × (r .scalars .pc ≡ g .scalars .pc) × (r .scalars .running .phase ≡ 4) × (g .at ≤ r .at) × (r .finished ≡ g .finished) ⌝ }
+        × (r .scalars .pc ≡ g .scalars .pc) × (r .scalars .running .phase ≡ 4) × (g .at ≤ r .at) × (r .finished ≡ g .finished)
+        × (r .at < length (now (lines .entry)) → r .scalars .running .count + 1 ≡ chargeOf (operation w) + 4) ⌝ }
 {
     let all = base[(w / 0x4000 % 16) as usize] + 4;
     let mut c = g.scalars;

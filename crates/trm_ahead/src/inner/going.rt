@@ -30,26 +30,26 @@ pub fn due(lines: &[u8], at: usize) -> bool
 }
 
 // A clock that answers nothing.
-pub fn quietly(g: Going, c: Scalars, done: u64) -> Going
-    requires { ⌜ (g .at ≤ 65536) × (g .finished ≤ 65536) × (done ≤ 1) ⌝ }
-    ensures { λ r. ⌜ r ≡ record { scalars = c; at = g .at + 1; finished = g .finished + done } ⌝ }
+pub fn quietly(g: Going, c: Scalars, finished: u64) -> Going
+    requires { ⌜ (g .at ≤ 65536) × (g .finished ≤ 65536) × (finished ≤ 1) ⌝ }
+    ensures { λ r. ⌜ r ≡ record { scalars = c; at = g .at + 1; finished = g .finished + finished } ⌝ }
 {
     Going {
         scalars: c,
         at: g.at + 1,
-        finished: g.finished + done,
+        finished: g.finished + finished,
     }
 }
 
 // A clock with its answer, if it has one.
 pub fn went(g: Going, r: Clocked, bytes: &mut [u8], outs: &mut [u32]) -> Going
     requires { ⌜ Room g r (now bytes) (now outs) ⌝ }
-    ensures { λ h. ⌜ (h ≡ record { scalars = r .scalars; at = g .at + 1; finished = g .finished + r .done })
+    ensures { λ h. ⌜ (h ≡ record { scalars = r .scalars; at = g .at + 1; finished = g .finished + r .finished })
         × (now (bytes .exit) ≡ set (now (bytes .entry)) (g .at) (r .byte))
         × (now (outs .exit) ≡ set (now (outs .entry)) (g .at) (r .word)) ⌝ }
 {
     let at = g.at;
-    let h = quietly(g, r.scalars, r.done);
+    let h = quietly(g, r.scalars, r.finished);
     if r.byte != 0 {
         bytes[at] = r.byte;
         outs[at] = r.word;

@@ -4,6 +4,9 @@
 ghost use mathlib.Core.Path.{_≡_};
 ghost use mathlib.Core.Bool.{cond};
 ghost use Prim.Native.Nat.{_+_, _≤_, _^_, _<_};
+ghost use lib.ListN.{length};
+ghost use Rattle.trm_word.specs.Fields.{operation};
+ghost use Rattle.trm_word.specs.Charge.{charges, chargeOf};
 ghost use Rattle.trm_reference.specs.Visible.{Visible};
 ghost use Rattle.trm_reference.specs.Execute.{operandA, operandB};
 ghost use Rattle.trm_reference.specs.Interrupt.{stalled};
@@ -87,7 +90,7 @@ fn after_serial(g: Going, u: Unit, w: u32, k: usize) -> Going
     }
 }
 
-// Phase 1, as long as there are steps and clocks.
+// Phase 1, as long as there are steps and clocks: the word ends when one clock of the base charge is left.
 pub fn steps_ahead(
     g: Going,
     regs: &[u32; 16],
@@ -98,23 +101,27 @@ pub fn steps_ahead(
     store: &[u32],
     w: u32,
     lines: &[u8],
+    base: &[u64; 16],
 ) -> Going
     requires { ⌜ Under (now lines) w (point g (now regs) (cache (now full) (now dirty) (now block) (now words)) (now store))
-        × (g .scalars .running .phase ≡ 1) ⌝ }
+        × (g .scalars .running .phase ≡ 1) × (now base ≡ charges) ⌝ }
     ensures { λ r. ⌜ Quietly (now (lines .entry)) w
         (point g (now (regs .entry)) (cache (now (full .entry)) (now (dirty .entry)) (now (block .entry)) (now (words .entry)))
         (now (store .entry)))
         (point r (now (regs .entry)) (cache (now (full .entry)) (now (dirty .entry)) (now (block .entry)) (now (words .entry)))
         (now (store .entry)))
-        × (r .scalars .pc ≡ g .scalars .pc) × (r .scalars .running .phase ≡ 1) × (g .at ≤ r .at) × (r .finished ≡ g .finished) ⌝ }
+        × (r .scalars .pc ≡ g .scalars .pc) × (r .scalars .running .phase ≡ 1) × (g .at ≤ r .at) × (r .finished ≡ g .finished)
+        × (r .at < length (now (lines .entry)) → r .scalars .running .count + 1 ≡ chargeOf (operation w)) ⌝ }
 {
     let a = reading::operand_a(g.scalars, regs, w);
     let b = reading::operand_b(g.scalars, regs, w);
     let divisor = trm_alu::inner::pair::divisor(a);
+    let last = base[(w / 0x4000 % 16) as usize] - 1; // so many steps
     let mut u = unit::pack(g.scalars.running, w);
     let mut k: usize = 0;
-    while g.at + k < lines.len() {
-        if u.count == 32 {
+    let left = lines.len() - g.at;
+    while k < left {
+        if u.count == last {
             return after_serial(g, u, w, k);
         }
         u = serial_clock(u, w, a, b, divisor, lines[g.at + k]);

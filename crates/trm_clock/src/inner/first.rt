@@ -22,7 +22,7 @@ use trm_reading::inner::reading;
 use trm_steps::inner::steps;
 use trm_word::inner::address::Place;
 
-// 8 to 10: 8 and 9 take their first step, 10 is carried out.
+// 8 to 10: 8 and 9 take their first step, 10 is carried out; the table is not asked, for speed (D-23).
 pub fn first_arithmetic(
     c: Scalars,
     regs: &mut [u32; 16],
@@ -108,7 +108,7 @@ pub fn first_store(
                 scalars: after,
                 byte: (d * 4 + 2) as u8,
                 word: x,
-                done: 1,
+                finished: 1,
             }
         }
         Place::Memory(a) => {

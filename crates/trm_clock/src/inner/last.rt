@@ -2,17 +2,12 @@
 // Paper: "What a programmer sees changes only in an instruction's last clock; a device is read or written only in that clock".
 // Memory is read before it is written, and the answer is made before the registers change.
 ghost use mathlib.Core.Path.{_≡_};
-ghost use mathlib.Core.Bool.{true, cond};
 ghost use lib.ListN.{length};
 ghost use Rattle.trm_word.specs.Fields.{operation};
-ghost use Rattle.trm_word.specs.Address.{storeLengthOk};
-ghost use Rattle.trm_word.specs.declared.inner.address.Place.the-variants.{Memory};
 ghost use Rattle.trm_reference.specs.Geometry.{paperGeometry};
-ghost use Rattle.trm_reference.specs.Access.{placeOfWord};
-ghost use Rattle.trm_reference.specs.Charge.{turnsCacheOff};
-ghost use Rattle.trm_cache.specs.Cache.{cache, allEmptied};
-ghost use Rattle.trm_core.specs.Record.{gathered, whole};
-ghost use Rattle.trm_core.specs.Clock.{cacheAfter, storeAfter, finish};
+ghost use Rattle.trm_cache.specs.Cache.{cache};
+ghost use Rattle.trm_core.specs.Record.{whole};
+ghost use Rattle.trm_core.specs.Clock.{finish};
 ghost use Rattle.trm_plan.specs.Good.{Good};
 ghost use Rattle.trm_plan.specs.Made.{Late, made};
 use trm_cache::inner::lines;
@@ -23,81 +18,6 @@ use trm_plan::inner::outcome;
 use trm_plan::inner::outcome::Clocked;
 use trm_reading::inner::reading;
 use trm_word::inner::address::Place;
-
-// Turning the cache off empties all lines.
-fn clear_lines(
-    c: Scalars,
-    regs: &[u32; 16],
-    full: &mut [u8; 16],
-    dirty: &mut [u8; 16],
-    block: &mut [u16; 16],
-    words: &[u32; 128],
-    w: u32,
-)
-    ensures { λ _. ⌜ cache (now (full .exit)) (now (dirty .exit)) (now (block .exit)) (now (words .entry))
-        ≡ cond (turnsCacheOff w (gathered c (now (regs .entry))))
-        (allEmptied paperGeometry (cache (now (full .entry)) (now (dirty .entry)) (now (block .entry)) (now (words .entry))))
-        (cache (now (full .entry)) (now (dirty .entry)) (now (block .entry)) (now (words .entry))) ⌝ }
-{
-    if !reading::turns_cache_off(c, regs, w) {
-        return;
-    }
-    off::empty_all(full, dirty, block, words);
-}
-
-// ST to word a of memory, through the cache or past it.
-fn store_at(
-    c: Scalars,
-    regs: &[u32; 16],
-    full: &[u8; 16],
-    dirty: &mut [u8; 16],
-    block: &[u16; 16],
-    words: &mut [u32; 128],
-    store: &mut [u32],
-    w: u32,
-    a: u64,
-)
-    requires { ⌜ (operation w ≡ 13) × (storeLengthOk (length (now store)) ≡ true)
-        × (placeOfWord w (gathered c (now regs)) (length (now store)) ≡ Memory a) ⌝ }
-    ensures { λ _. ⌜ (cache (now (full .entry)) (now (dirty .exit)) (now (block .entry)) (now (words .exit))
-        ≡ cacheAfter paperGeometry w (length (now (store .entry))) (gathered c (now (regs .entry)))
-        (cache (now (full .entry)) (now (dirty .entry)) (now (block .entry)) (now (words .entry))))
-        × (now (store .exit) ≡ storeAfter w (length (now (store .entry))) (gathered c (now (regs .entry))) (now
-        (store .entry))) ⌝ }
-{
-    let x = reading::stored_word(c, regs, w);
-    let i = a as usize;
-    if reading::cache_on(c, regs) {
-        lines::store_to(full, dirty, block, words, i / 8 % 16, i % 8, x);
-        return;
-    }
-    store[i] = x;
-}
-
-// ST to memory; to a device nothing is stored here, the answer takes the word out.
-fn store_word(
-    c: Scalars,
-    regs: &[u32; 16],
-    full: &[u8; 16],
-    dirty: &mut [u8; 16],
-    block: &[u16; 16],
-    words: &mut [u32; 128],
-    store: &mut [u32],
-    w: u32,
-)
-    requires { ⌜ (operation w ≡ 13) × (storeLengthOk (length (now store)) ≡ true) ⌝ }
-    ensures { λ _. ⌜ (cache (now (full .entry)) (now (dirty .exit)) (now (block .entry)) (now (words .exit))
-        ≡ cacheAfter paperGeometry w (length (now (store .entry))) (gathered c (now (regs .entry)))
-        (cache (now (full .entry)) (now (dirty .entry)) (now (block .entry)) (now (words .entry))))
-        × (now (store .exit) ≡ storeAfter w (length (now (store .entry))) (gathered c (now (regs .entry))) (now
-        (store .entry))) ⌝ }
-{
-    let place = reading::place_of_word(c, regs, w, store.len() as u64);
-    match place {
-        Place::Device(_) => {}
-        Place::Memory(a) => store_at(c, regs, full, dirty, block, words, store, w, a),
-    }
-}
 
 // 11: a jump, or the cache is turned off.
 fn last_control(
@@ -121,7 +41,7 @@ fn last_control(
     if w / 1024 % 2 == 1 {
         return outcome::carried(carry::jump(c, regs, w));
     }
-    clear_lines(c, regs, full, dirty, block, words, w);
+    off::empty_all(full, dirty, block, words);
     outcome::carried(carry::set_status(c, regs, w))
 }
 
@@ -152,7 +72,7 @@ fn last_load(
                 scalars: after,
                 byte: (d * 4 + 1) as u8,
                 word: input,
-                done: 1,
+                finished: 1,
             }
         }
         Place::Memory(a) => {
@@ -162,7 +82,7 @@ fn last_load(
     }
 }
 
-// 13 ST; it has a last clock of its own only to memory.
+// 13 ST; it has a last clock of its own only through the cache.
 fn last_store(
     c: Scalars,
     regs: &mut [u32; 16],
@@ -181,7 +101,9 @@ fn last_store(
         ≡ finish paperGeometry w (length (now (store .entry))) (whole c (now (regs .entry)) (cache (now (full .entry)) (now
         (dirty .entry)) (now (block .entry)) (now (words .entry)))) (now (store .entry)) input ⌝ }
 {
-    store_word(c, regs, full, dirty, block, words, store, w);
+    let a = reading::target_of(c, regs, w, store.len() as u64) as usize;
+    let x = reading::stored_word(c, regs, w);
+    lines::store_to(full, dirty, block, words, a / 8 % 16, a % 8, x);
     outcome::carried(carry::pass(c, regs, w))
 }
 

@@ -1,36 +1,34 @@
-// The methods on the machine record: a run, one clock, one step of the multiplier, one of the divider, one acknowledgement.
-// Paper: "Methods on the machine record with mut self: .. each handing the record back".
+// The methods on the machine record: a run, one clock; and the clocks that are a step of the multiplier or of the divider, or an
+// acknowledgement. Paper: "Methods on the machine record with mut self: .. each handing the record back".
 // Each takes the record apart, calls the function on its parts, and puts it together.
 ghost use mathlib.Core.Path.{_≡_};
 ghost use mathlib.Core.Bool.{true};
 ghost use Prim.Native.Nat.{_+_};
 ghost use lib.ListN.{length};
+ghost use Rattle.trm_word.specs.Fields.{operation};
 ghost use Rattle.trm_reference.specs.Geometry.{paperGeometry};
-ghost use Rattle.trm_reference.specs.Execute.{operandA, operandB};
 ghost use Rattle.trm_reference.specs.Interrupt.{interrupted};
 ghost use Rattle.trm_cache.specs.Cache.{cache};
-ghost use Rattle.trm_core.specs.Record.{gathered, whole, ended};
+ghost use Rattle.trm_core.specs.Record.{gathered, whole, ended, advanced, stepping};
 ghost use Rattle.trm_core.specs.Clock.{clockOf};
 ghost use Rattle.trm_core.specs.Refusals.{clockRefusal, runRefusal};
 ghost use Rattle.trm_core.specs.Rule.{widthsOk, countsOk};
 ghost use Rattle.trm_core.specs.Run.{runOf};
-ghost use Rattle.trm_steps.specs.Steps.{Multiplies, Divides, multiplied, dividedBy};
-ghost use Rattle.trm_engine.specs.Machine.{recordOf, withRunning, ticked, ranTo};
+ghost use Rattle.trm_refusals.specs.declared.refusal.Refusal.the-variants.{Accepted};
+ghost use Rattle.trm_steps.specs.Steps.{Steps};
+ghost use Rattle.trm_engine.specs.Machine.{recordOf, clocked, ranTo};
+use crate::answer::Clock;
 use crate::inner::clear;
+use crate::inner::next;
+use crate::inner::one;
 use crate::inner::turn;
 use crate::machine::Machine;
 use trm_ahead::inner::going::Going;
 use trm_reading::inner::reading;
+use trm_refusals::refusal::Refusal;
 use trm_steps::inner::interrupt;
+use trm_steps::inner::scalars;
 use trm_steps::inner::steps;
-
-// A record after one clock, with the clock's answer.
-pub struct Ticked {
-    pub machine: Machine,
-    pub byte: u8,
-    pub word: u32,
-    pub done: u64,
-}
 
 // A record after a run, and how many words were carried out.
 pub struct Finished {
@@ -98,12 +96,35 @@ impl Machine {
         }
     }
 
-    // One clock: a run of one.
-    pub fn clock(mut self, program: &[u32], store: &mut [u32], line: u8, input: u32) -> Ticked
+    // One clock. An acknowledgement and a step of the multiplier or the divider are clocks of their own methods.
+    pub fn clock(mut self, program: &[u32], store: &mut [u32], line: u8, input: u32) -> Clock
         requires { ⌜ clockRefusal paperGeometry (now program) (recordOf self) (now store) line ≡ 0 ⌝ }
-        ensures { λ r. ⌜ ticked r (now (store .exit))
+        ensures { λ r. ⌜ (r .refused ≡ Accepted) × (clocked r (now (store .exit))
             ≡ clockOf paperGeometry (now (program .entry)) (record { machine = recordOf self; store = now (store .entry) })
-            (record { line = line; input = input }) ⌝ }
+            (record { line = line; input = input })) ⌝ }
+    {
+        let c = self.scalars;
+        let to = next::interrupt_now(c, line);
+        if to != 0 {
+            return next::quiet(self.acknowledge(to));
+        }
+        let w = reading::word_at(program, c.pc);
+        let unit = next::unit_now(c, w, line);
+        if unit == 8 {
+            return next::quiet(self.multiplier_step(w));
+        }
+        if unit == 9 {
+            return next::quiet(self.divider_step(w));
+        }
+        self.other_clock(program, store, line, input)
+    }
+
+    // Any clock, on the record's parts.
+    fn other_clock(mut self, program: &[u32], store: &mut [u32], line: u8, input: u32) -> Clock
+        requires { ⌜ clockRefusal paperGeometry (now program) (recordOf self) (now store) line ≡ 0 ⌝ }
+        ensures { λ r. ⌜ (r .refused ≡ Accepted) × (clocked r (now (store .exit))
+            ≡ clockOf paperGeometry (now (program .entry)) (record { machine = recordOf self; store = now (store .entry) })
+            (record { line = line; input = input })) ⌝ }
     {
         let scalars = self.scalars;
         let mut regs = self.regs;
@@ -111,17 +132,8 @@ impl Machine {
         let mut dirty = self.dirty;
         let mut block = self.block;
         let mut cached = self.words;
-        let lines = [line; 1];
-        let inputs = [input; 1];
-        let mut bytes = [0u8; 1];
-        let mut words = [0u32; 1];
-        let began = Going {
-            scalars: scalars,
-            at: 0,
-            finished: 0,
-        };
-        let g = turn::all_turns(
-            began,
+        let t = one::one_clock(
+            scalars,
             program,
             &mut regs,
             &mut full,
@@ -129,12 +141,10 @@ impl Machine {
             &mut block,
             &mut cached,
             store,
-            &lines,
-            &inputs,
-            &mut bytes,
-            &mut words,
+            line,
+            input,
         );
-        let after = g.scalars;
+        let after = t.scalars;
         let machine = Machine {
             scalars: after,
             regs: regs,
@@ -143,53 +153,55 @@ impl Machine {
             block: block,
             words: cached,
         };
-        Ticked {
-            machine: machine,
-            byte: bytes[0],
-            word: words[0],
-            done: g.finished,
+        Clock {
+            machine: machine, // as the clock leaves it
+            refused: Refusal::Accepted,
+            byte: t.byte,
+            word: t.word,
+            finished: t.finished,
         }
     }
 
-    // One step of the multiplier for the word w.
+    // A clock that is one step of the multiplier, for the word w at PC.
     pub fn multiplier_step(mut self, w: u32) -> Machine
-        requires { ⌜ Multiplies (self .scalars .running) (operandA w (gathered (self .scalars) (self .regs)))
-            (operandB w (gathered (self .scalars) (self .regs))) ⌝ }
-        ensures { λ r. ⌜ r ≡ withRunning self (multiplied (operandA w (gathered (self .scalars) (self .regs)))
-            (operandB w (gathered (self .scalars) (self .regs))) (self .scalars .running .count + 1)) ⌝ }
+        requires { ⌜ Steps w (self .scalars .running) (gathered (self .scalars) (self .regs)) × (operation w ≡ 8)
+            × (countsOk (self .scalars .counts) ≡ true) ⌝ }
+        ensures { λ r. ⌜ recordOf r ≡ whole (advanced (self .scalars)
+            (stepping w (gathered (self .scalars) (self .regs)) (self .scalars .running .count + 1)) 0 0) (self .regs)
+            (cache (self .full) (self .dirty) (self .block) (self .words)) ⌝ }
     {
-        let mut c = self.scalars;
+        let c = self.scalars;
         let regs = self.regs;
         let a = reading::operand_a(c, &regs, w);
         let b = reading::operand_b(c, &regs, w);
-        let before = c.running;
-        let running = steps::multiplier_step(before, a, b);
-        c.running = running;
-        self.scalars = c;
+        let running = steps::multiplier_step(c.running, a, b);
+        let after = scalars::advance(c, running, 0, 0); // one clock more
+        self.scalars = after;
         self
     }
 
-    // One step of the divider for the word w.
+    // A clock that is one step of the divider, for the word w at PC.
     pub fn divider_step(mut self, w: u32) -> Machine
-        requires { ⌜ Divides (self .scalars .running) (operandA w (gathered (self .scalars) (self .regs)))
-            (operandB w (gathered (self .scalars) (self .regs))) ⌝ }
-        ensures { λ r. ⌜ r ≡ withRunning self (dividedBy (operandA w (gathered (self .scalars) (self .regs)))
-            (operandB w (gathered (self .scalars) (self .regs))) (self .scalars .running .count + 1)) ⌝ }
+        requires { ⌜ Steps w (self .scalars .running) (gathered (self .scalars) (self .regs)) × (operation w ≡ 9)
+            × (countsOk (self .scalars .counts) ≡ true) ⌝ }
+        ensures { λ r. ⌜ recordOf r ≡ whole (advanced (self .scalars)
+            (stepping w (gathered (self .scalars) (self .regs)) (self .scalars .running .count + 1)) 0 0) (self .regs)
+            (cache (self .full) (self .dirty) (self .block) (self .words)) ⌝ }
     {
-        let mut c = self.scalars;
+        let c = self.scalars;
         let regs = self.regs;
         let a = reading::operand_a(c, &regs, w);
         let b = reading::operand_b(c, &regs, w);
-        let before = c.running;
-        let running = steps::divider_step(before, a, b);
-        c.running = running;
-        self.scalars = c;
+        let running = steps::divider_step(c.running, a, b);
+        let after = scalars::advance(c, running, 0, 0); // a clock more
+        self.scalars = after;
         self
     }
 
-    // One acknowledgement of the interrupt that goes to this PC.
+    // A clock that takes the interrupt which goes to this PC, nothing being in flight.
     pub fn acknowledge(mut self, to: u64) -> Machine
-        requires { ⌜ (widthsOk (gathered (self .scalars) (self .regs)) ≡ true) × (countsOk (self .scalars .counts) ≡ true) ⌝ }
+        requires { ⌜ (widthsOk (gathered (self .scalars) (self .regs)) ≡ true) × (countsOk (self .scalars .counts) ≡ true)
+            × (self .scalars .running .phase ≡ 0) ⌝ }
         ensures { λ r. ⌜ recordOf r ≡ whole (ended (self .scalars) (interrupted (gathered (self .scalars) (self .regs)) to))
             (interrupted (gathered (self .scalars) (self .regs)) to .regs)
             (cache (self .full) (self .dirty) (self .block) (self .words)) ⌝ }

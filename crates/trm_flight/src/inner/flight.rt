@@ -1,11 +1,11 @@
-// A clock of a word in flight: phases 1 to 4.
+// The last clock of a phase, 1 to 4; those before it are trm_ahead's.
 // Paper: "1 arithmetic, 1-32; 2 write-back, 0-9 ..; 3 refill, 0-9; 4 uncached wait".
-// The base charge tells when steps and waits are over.
+// That it is the last one the caller knows: the loop over the phase stopped there.
 ghost use mathlib.Core.Path.{_≡_};
-ghost use mathlib.Core.Bool.{true};
-ghost use Prim.Native.Nat.{_+_, _<_};
+ghost use Prim.Native.Nat.{_+_};
 ghost use lib.ListN.{length};
-ghost use Rattle.trm_word.specs.Charge.{charges};
+ghost use Rattle.trm_word.specs.Fields.{operation};
+ghost use Rattle.trm_word.specs.Charge.{chargeOf};
 ghost use Rattle.trm_reference.specs.Geometry.{paperGeometry};
 ghost use Rattle.trm_cache.specs.Cache.{cache};
 ghost use Rattle.trm_core.specs.Record.{whole};
@@ -19,10 +19,9 @@ use trm_motion::inner::motion;
 use trm_plan::inner::outcome;
 use trm_plan::inner::outcome::Clocked;
 use trm_reading::inner::reading;
-use trm_steps::inner::steps;
 
-// Phase 1: the word ends when one clock of the base charge is left.
-pub fn next_step(
+// Phase 1: the result, one clock of the base charge being left.
+pub fn end_steps(
     c: Scalars,
     regs: &mut [u32; 16],
     full: &mut [u8; 16],
@@ -32,23 +31,19 @@ pub fn next_step(
     store: &mut [u32],
     w: u32,
     input: u32,
-    base: &[u64; 16],
 ) -> Clocked
     requires { ⌜ (Good w (length (now store)) c (now regs) (cache (now full) (now dirty) (now block) (now words)))
-        × (c .running .phase ≡ 1) × (now base ≡ charges) ⌝ }
+        × (c .running .phase ≡ 1) × (c .running .count + 1 ≡ chargeOf (operation w)) ⌝ }
     ensures { λ r. ⌜ made r (now (regs .exit)) (cache (now (full .exit)) (now (dirty .exit)) (now (block .exit)) (now (words .exit)))
         (now (store .exit))
         ≡ worked paperGeometry w (length (now (store .entry))) (whole c (now (regs .entry)) (cache (now (full .entry)) (now
         (dirty .entry)) (now (block .entry)) (now (words .entry)))) (now (store .entry)) input ⌝ }
 {
-    if c.running.count + 1 == base[(w / 0x4000 % 16) as usize] {
-        return outcome::carried(carry::long(c, regs, w));
-    }
-    outcome::goes_on(c, steps::next_step(c, regs, w), 0, 0)
+    outcome::carried(carry::long(c, regs, w))
 }
 
-// Phase 2.
-pub fn next_write(
+// Phase 2: the tenth clock of a line.
+pub fn end_write(
     c: Scalars,
     regs: &mut [u32; 16],
     full: &mut [u8; 16],
@@ -60,7 +55,7 @@ pub fn next_write(
     input: u32,
 ) -> Clocked
     requires { ⌜ (Good w (length (now store)) c (now regs) (cache (now full) (now dirty) (now block) (now words)))
-        × (c .running .phase ≡ 2) ⌝ }
+        × (c .running .phase ≡ 2) × (c .running .count ≡ 9) ⌝ }
     ensures { λ r. ⌜ made r (now (regs .exit)) (cache (now (full .exit)) (now (dirty .exit)) (now (block .exit)) (now (words .exit)))
         (now (store .exit))
         ≡ worked paperGeometry w (length (now (store .entry))) (whole c (now (regs .entry)) (cache (now (full .entry)) (now
@@ -78,13 +73,13 @@ pub fn next_write(
         store.len() as u64,
         clears,
     );
-    let m = motion::write_back(full, dirty, block, words, store, clears, l, c.running.count);
+    let m = motion::end_write_back(full, dirty, block, words, store, clears, l);
     let running = m.running;
     outcome::goes_on(c, running, m.refilled, m.written)
 }
 
-// Phase 3.
-pub fn next_fill(
+// Phase 3: the tenth clock.
+pub fn end_fill(
     c: Scalars,
     regs: &mut [u32; 16],
     full: &mut [u8; 16],
@@ -96,29 +91,20 @@ pub fn next_fill(
     input: u32,
 ) -> Clocked
     requires { ⌜ (Good w (length (now store)) c (now regs) (cache (now full) (now dirty) (now block) (now words)))
-        × (c .running .phase ≡ 3) ⌝ }
+        × (c .running .phase ≡ 3) × (c .running .count ≡ 9) ⌝ }
     ensures { λ r. ⌜ made r (now (regs .exit)) (cache (now (full .exit)) (now (dirty .exit)) (now (block .exit)) (now (words .exit)))
         (now (store .exit))
         ≡ worked paperGeometry w (length (now (store .entry))) (whole c (now (regs .entry)) (cache (now (full .entry)) (now
         (dirty .entry)) (now (block .entry)) (now (words .entry)))) (now (store .entry)) input ⌝ }
 {
     let b = reading::target_of(c, regs, w, store.len() as u64) / 8;
-    let m = motion::refill(
-        full,
-        dirty,
-        block,
-        words,
-        store,
-        b,
-        (b % 16) as usize,
-        c.running.count,
-    );
+    let m = motion::end_refill(full, dirty, block, words, store, b, (b % 16) as usize);
     let running = m.running;
     outcome::goes_on(c, running, m.refilled, m.written)
 }
 
-// Phase 4: the word ends when one clock of the base charge and 4 more is left.
-pub fn next_wait(
+// Phase 4: the access, one clock of the base charge and 4 more being left.
+pub fn end_wait(
     c: Scalars,
     regs: &mut [u32; 16],
     full: &mut [u8; 16],
@@ -128,18 +114,14 @@ pub fn next_wait(
     store: &mut [u32],
     w: u32,
     input: u32,
-    base: &[u64; 16],
 ) -> Clocked
     requires { ⌜ (Good w (length (now store)) c (now regs) (cache (now full) (now dirty) (now block) (now words)))
-        × (c .running .phase ≡ 4) × (now base ≡ charges) ⌝ }
+        × (c .running .phase ≡ 4) × (c .running .count + 1 ≡ chargeOf (operation w) + 4) ⌝ }
     ensures { λ r. ⌜ made r (now (regs .exit)) (cache (now (full .exit)) (now (dirty .exit)) (now (block .exit)) (now (words .exit)))
         (now (store .exit))
         ≡ worked paperGeometry w (length (now (store .entry))) (whole c (now (regs .entry)) (cache (now (full .entry)) (now
         (dirty .entry)) (now (block .entry)) (now (words .entry)))) (now (store .entry)) input ⌝ }
 {
-    if c.running.count + 1 != base[(w / 0x4000 % 16) as usize] + 4 {
-        return outcome::enters(c, 4, c.running.count + 1);
-    }
     let a = reading::target_of(c, regs, w, store.len() as u64) as usize;
     if reading::is_store(w) {
         store[a] = reading::stored_word(c, regs, w);

@@ -11,7 +11,7 @@ use native.Mathlib.Nat.{le-of-suc-le-suc}
 use lib.ListN.{length, take, replicate, length-replicate}
 use lib.Dec.{eqb, ltb}
 use borrow.Author.Tests.{eq-eqb, ne-eqb, le-leb, ltb-true, ltb-false}
-use Rattle.trm_laws.proofs.Tests.{_&t_}
+use Rattle.trm_laws.proofs.Tests.{_&t_, chosen}
 use Rattle.trm_reference.specs.Geometry.{paperGeometry}
 use Rattle.trm_reference.specs.Visible.{wordAt}
 use Rattle.trm_reference.specs.Interrupt.{stalled, interruptChosen}
@@ -55,6 +55,10 @@ least-bounds a b r e = go (ltb a b) refl
         let x : r ≡ b = e ∙ ap (λ (t : Bool). cond t a b) h in
         let l : b ≤ a = ltb-false a b h in
         (omega arith, omega arith)
+
+-- and there is one if both have one
+pub least-some : (a b r : ℕ) → r ≡ cond (ltb a b) a b → 0 < a → 0 < b → 0 < r
+least-some a b r e p q = subst (λ k. 0 < k) (sym e) (chosen (λ k. 0 < k) (ltb a b) p q)
 
 -- lists of the same pins
 pins-same : (m a b : ℕ) → pinsOf (replicate m a) (replicate m b) ≡ replicate m (record { line = a; input = b })

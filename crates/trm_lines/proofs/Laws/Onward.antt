@@ -124,13 +124,13 @@ module _ (p : List ℕ) (i : Pins) where
         let clock : r .scalars .counts .clocks ≡ l .scalars .counts .clocks + 1 =
         ap (λ t. t .state .machine .scalars .counts .clocks) e ∙ clock-adds p x i .adds in
         one
-        (cond (eqb (r .done) 1)
+        (cond (eqb (r .finished) 1)
         (lineBytes (record { clock = r .scalars .counts .clocks; at = l .scalars .pc; shown = Word w; took = l .took + 1 })) [])
-        (cond (eqb (r .done) 1) 0 (l .took + 1))
+        (cond (eqb (r .finished) 1) 0 (l .took + 1))
         (λ is. rw (clock, at, done) (text-went p x i (l .took) is f z))
         h (lentOf h rs′ ca′ s′) b′
         (ap (λ c. record { machine = whole c rs′ ca′; store = s′ }) (g .scalars) ∙ ap (λ t. t .state) e)
-        (g .left) (g .took) (chosen (λ k. k ≤ l .took + 1) (eqb (r .done) 1) (omega arith) (omega arith))
+        (g .left) (g .took) (chosen (λ k. k ≤ l .took + 1) (eqb (r .finished) 1) (omega arith) (omega arith))
         (g .text .text) (g .text .long) (g .fits)
 
     pub onward-interrupted : (to : ℕ) → interruptAt x i ≡ to → to ≢ 0 → (c : Scalars) (rs′ : List ℕ)

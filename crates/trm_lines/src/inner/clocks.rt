@@ -9,8 +9,10 @@ ghost use Prim.Native.Nat.{ℕ, _+_, _≤_, _<_};
 ghost use lib.Dec.{ltb};
 ghost use lib.ListN.{length};
 ghost use Rattle.trm_word.specs.Charge.{charges};
+ghost use Rattle.trm_reference.specs.Visible.{wordAt};
 ghost use Rattle.trm_reference.specs.Interrupt.{stalled, interruptChosen};
 ghost use Rattle.trm_cache.specs.Cache.{cache};
+ghost use Rattle.trm_plan.specs.Made.{Ends};
 ghost use Rattle.trm_lines.specs.Onward.{lentOf, Able, Onward};
 use crate::inner::listed;
 use crate::inner::listed::Listed;
@@ -30,7 +32,7 @@ fn least(a: usize, b: usize) -> usize
     b
 }
 
-// A word in flight: the clocks that cannot be its last, one after another.
+// A word in flight: of the next m clocks those that cannot be the last of its phase, one after another.
 fn gone_ahead(
     l: Listed,
     program: &[u32],
@@ -43,16 +45,19 @@ fn gone_ahead(
     line: u8,
     input: u32,
     base: &[u64; 16],
+    m: usize,
 ) -> Listed
     requires { ⌜ Able (now program) (lentOf l (now regs) (cache (now full) (now dirty) (now block) (now words)) (now store))
         (l .took) (l .left) (record { line = line; input = input })
-        × (stalled line ≡ false) × (l .scalars .running .phase ≢ 0) × (now base ≡ charges) ⌝ }
+        × (stalled line ≡ false) × (l .scalars .running .phase ≢ 0) × (now base ≡ charges) × (m ≤ l .left) × (m ≤ 64) ⌝ }
     ensures { λ r. ⌜ ((b : List ℕ) → l .len ≤ length b → Onward (now (program .entry)) (record { line = line; input = input })
         l (lentOf l (now (regs .entry)) (cache (now (full .entry)) (now (dirty .entry)) (now (block .entry)) (now (words .entry)))
         (now (store .entry))) b
         r (lentOf r (now (regs .entry)) (cache (now (full .entry)) (now (dirty .entry)) (now (block .entry)) (now (words .exit)))
         (now (store .exit))) b)
-        × (r .scalars .pc ≡ l .scalars .pc) × (r .scalars .running .phase ≢ 0) × (r .len ≡ l .len) ⌝ }
+        × (r .scalars .pc ≡ l .scalars .pc) × (r .scalars .running .phase ≢ 0) × (r .len ≡ l .len) × (r .left ≤ l .left)
+        × (l .left ≤ r .left + m)
+        × (l .left < r .left + m → Ends (wordAt (now (program .entry)) (l .scalars .pc)) (r .scalars .running)) ⌝ }
 {
     let c = l.scalars;
     if c.running.phase == 5 {
@@ -60,7 +65,6 @@ fn gone_ahead(
     }
     let w = reading::word_at(program, c.pc);
     let lines = [line; 64];
-    let m = least(l.left, 64);
     let g = Going {
         scalars: c,
         at: 0,
@@ -87,7 +91,7 @@ fn gone_ahead(
     }
 }
 
-// A word in flight: the clocks that cannot be its last, and one more.
+// A word in flight: the clocks that cannot be the last of its phase, and that last one, if the run has it.
 fn goes_on(
     l: Listed,
     program: &[u32],
@@ -112,6 +116,7 @@ fn goes_on(
         r (lentOf r (now (regs .exit)) (cache (now (full .exit)) (now (dirty .exit)) (now (block .exit)) (now (words .exit)))
         (now (store .exit))) (now (buf .exit)) × (r .left < l .left) ⌝ }
 {
+    let m = least(l.left, 64); // more than a phase can have
     let gone = gone_ahead(
         l,
         program,
@@ -124,13 +129,14 @@ fn goes_on(
         line,
         input,
         base,
+        m,
     );
-    if gone.left == 0 {
-        return gone;
+    if l.left - gone.left == m {
+        return gone; // the run ended first
     }
     let c = gone.scalars;
     let w = reading::word_at(program, c.pc);
-    let r = flight::flight_clock(c, regs, full, dirty, block, words, store, w, input, base);
+    let r = flight::flight_end(c, regs, full, dirty, block, words, store, w, input);
     listed::went(gone, r, w, buf)
 }
 
@@ -146,12 +152,13 @@ fn begins(
     store: &mut [u32],
     line: u8,
     input: u32,
+    base: &[u64; 16],
     buf: &mut [u8],
 ) -> Listed
     requires { ⌜ Able (now program) (lentOf l (now regs) (cache (now full) (now dirty) (now block) (now words)) (now store))
         (l .took) (l .left) (record { line = line; input = input })
         × (0 < l .left) × (l .len + 32 ≤ length (now buf)) × (stalled line ≡ false)
-        × (l .scalars .running .phase ≡ 0) × (interruptChosen (l .scalars .status) line ≡ 0) ⌝ }
+        × (l .scalars .running .phase ≡ 0) × (interruptChosen (l .scalars .status) line ≡ 0) × (now base ≡ charges) ⌝ }
     ensures { λ r. ⌜ Onward (now (program .entry)) (record { line = line; input = input })
         l (lentOf l (now (regs .entry)) (cache (now (full .entry)) (now (dirty .entry)) (now (block .entry)) (now (words .entry)))
         (now (store .entry))) (now (buf .entry))
@@ -159,7 +166,18 @@ fn begins(
         (now (store .exit))) (now (buf .exit)) × (r .left < l .left) ⌝ }
 {
     let w = reading::word_at(program, l.scalars.pc);
-    let r = first::first_clock(l.scalars, regs, full, dirty, block, words, store, w, input);
+    let r = first::first_clock(
+        l.scalars,
+        regs,
+        full,
+        dirty,
+        block,
+        words,
+        store,
+        w,
+        input,
+        base,
+    );
     listed::went(l, r, w, buf)
 }
 
@@ -260,6 +278,7 @@ fn one_turn(
         store,
         line,
         input,
+        base,
         buf,
     )
 }

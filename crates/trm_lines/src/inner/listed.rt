@@ -27,7 +27,7 @@ pub fn went(l: Listed, r: Clocked, w: u32, buf: &mut [u8]) -> Listed
     ensures { λ h. ⌜ Went l r w (now (buf .entry)) h (now (buf .exit)) ⌝ }
 {
     let c = r.scalars;
-    if r.done != 1 {
+    if r.finished != 1 {
         return Listed {
             scalars: c,
             left: l.left - 1,

@@ -1,4 +1,4 @@
-// What a clock moves in the cache and the store: one word of a burst, one look; and the line of a write-back.
+// What a clock moves in the cache and the store: the last word of a burst, one look; and the line of a write-back.
 // Paper: phases 2 and 3; "A line is empty while it refills and clean after either ten".
 // The cache's functions take no scalars: they tell what is running next, and which burst they finished.
 ghost use mathlib.Core.Path.{_≡_};
@@ -70,8 +70,8 @@ fn written_back(
     moves(3, 0, 0, 1)
 }
 
-// One clock of the write-back of line l, k of them done.
-pub fn write_back(
+// The last clock of the write-back of line l, nine being done.
+pub fn end_write_back(
     full: &mut [u8; 16],
     dirty: &mut [u8; 16],
     block: &mut [u16; 16],
@@ -79,27 +79,23 @@ pub fn write_back(
     store: &mut [u32],
     clears: bool,
     l: usize,
-    k: u64,
 ) -> Motion
-    requires { ⌜ (l < 16) × (k < 10)
+    requires { ⌜ (l < 16)
         × (lineAt paperGeometry (cache (now full) (now dirty) (now block) (now words)) l .block * 8 + 8 ≤ length (now store)) ⌝ }
     ensures { λ r. ⌜ ((c : Scalars) → moved c (r .running)
         (cache (now (full .exit)) (now (dirty .exit)) (now (block .exit)) (now (words .entry))) (now (store .exit)) (r .refilled)
         (r .written)
-        ≡ writing paperGeometry clears l k c
+        ≡ writing paperGeometry clears l 9 c
         (cache (now (full .entry)) (now (dirty .entry)) (now (block .entry)) (now (words .entry))) (now (store .entry)))
         × (r .refilled ≤ 1) × (r .written ≤ 1) ⌝ }
 {
-    bursts::write_word(full, dirty, block, words, store, l, k);
-    if k + 1 != 10 { // write-back
-        return moves(2, k + 1, 0, 0);
-    }
+    bursts::write_word(full, dirty, block, words, store, l, 9);
     dirty[l] = 0;
     written_back(full, dirty, block, words, clears, l)
 }
 
-// One clock of the refill of line l with block b, k of them done.
-pub fn refill(
+// The last clock of the refill of line l with block b, nine being done.
+pub fn end_refill(
     full: &mut [u8; 16],
     dirty: &mut [u8; 16],
     block: &mut [u16; 16],
@@ -107,20 +103,16 @@ pub fn refill(
     store: &[u32],
     b: u64,
     l: usize,
-    k: u64,
 ) -> Motion
-    requires { ⌜ (l < 16) × (k < 10) × (b < 65536) × (b * 8 + 8 ≤ length (now store)) ⌝ }
+    requires { ⌜ (l < 16) × (b < 65536) × (b * 8 + 8 ≤ length (now store)) ⌝ }
     ensures { λ r. ⌜ ((c : Scalars) → moved c (r .running)
         (cache (now (full .exit)) (now (dirty .exit)) (now (block .exit)) (now (words .exit))) (now (store .entry)) (r .refilled)
         (r .written)
-        ≡ filling paperGeometry b l k c
+        ≡ filling paperGeometry b l 9 c
         (cache (now (full .entry)) (now (dirty .entry)) (now (block .entry)) (now (words .entry))) (now (store .entry)))
         × (r .refilled ≤ 1) × (r .written ≤ 1) ⌝ }
 {
-    bursts::fill_word(full, dirty, block, words, store, l, b, k);
-    if k + 1 != 10 {
-        return moves(3, k + 1, 0, 0);
-    }
+    bursts::fill_word(full, dirty, block, words, store, l, b, 9);
     lines::fill_line(full, dirty, block, l, b);
     moves(5, 0, 1, 0)
 }

@@ -97,6 +97,12 @@ unfolding allBelow
 charge-small w = leb-true (chargeOf (operation w)) 33
     (below-all 16 (λ o. leb (chargeOf o) 33) refl (operation w) (mod-lt (w / 2 ^ 14) {m = 2 ^ 4} (omega arith)))
 
+-- and at least 1
+pub charge-some : (w : ℕ) → 1 ≤ chargeOf (operation w)
+unfolding allBelow
+charge-some w = leb-true 1 (chargeOf (operation w))
+    (below-all 16 (λ o. leb 1 (chargeOf o)) refl (operation w) (mod-lt (w / 2 ^ 14) {m = 2 ^ 4} (omega arith)))
+
 -- row 5 for the word at PC
 pub good-at : (p : List ℕ) (n : ℕ) (c : Scalars) (rs : List ℕ) (ca : Cache) → storeLengthOk n ≡ true
     → recordOk paperGeometry p n (whole c rs ca) ≡ true → Good (wordAt p (c .pc)) n c rs ca

@@ -1,7 +1,7 @@
 -- The plan in flight, a law for each way that phases 1 to 5 go on or end.
 -- Idea: the phase tells what is running; the record rule then has just the facts of that phase.
 -- Assumes nothing.
-use Prim.Native.Nat.{ℕ, _+_, _^_, _≤_, _<_}
+use Prim.Native.Nat.{ℕ, _+_, _%_, _^_, _≤_, _<_}
 use mathlib.Core.Path.{_≡_, refl, sym, _∙_, subst}
 use mathlib.Core.Logic.{_≢_}
 use mathlib.Core.Bool.{Bool, true, false, cond, _&&_, _||_}
@@ -21,7 +21,7 @@ use Rattle.trm_cache.proofs.Laws.Cache.{dirty-full}
 use Rattle.trm_cache.proofs.Laws.Dirty.{first-dirty}
 use Rattle.trm_core.specs.declared.record.Scalars.{Scalars}
 use Rattle.trm_core.specs.Record.{gathered}
-use Rattle.trm_core.specs.Clock.{lineFor, writeLine}
+use Rattle.trm_core.specs.Clock.{lineFor, writeLine, writing, filling}
 use Rattle.trm_core.specs.Rule.{dueOk}
 use Rattle.trm_core.proofs.Laws.Fit.{block-in, line-in}
 use Rattle.trm_core.proofs.Laws.Kind.{Kind, quick, second, longer, device, cached, uncached, clearing, kindOf, is-of}
@@ -30,7 +30,7 @@ use Rattle.trm_core.proofs.Laws.Phases.{advance-1, advance-2-cached, advance-2-
 use Rattle.trm_core.proofs.Laws.Rule.{Phase, ready, arithmetic, writeBack, clearingOff, refill, waiting, due}
 use Rattle.trm_steps.specs.Unit.{Packs}
 use Rattle.trm_steps.proofs.Laws.Unit.{packs}
-use Rattle.trm_plan.proofs.Plan.{Writes, Fills, Plan}
+use Rattle.trm_plan.proofs.Plan.{Does, Writes, Fills, Plan}
 use Rattle.trm_plan.proofs.Plan.{Finish, Step, Write, Fill, Wait}
 use Rattle.trm_plan.proofs.Laws.Facts.{Facts, few-waits}
 use Rattle.trm_plan.proofs.Laws.Plans.{idle-ended}
@@ -149,6 +149,11 @@ module _ (w n : ℕ) (c : Scalars) (rs : List ℕ) (ca : Cache) (f : Facts w n c
     write-at t l p q = subst (λ x. Writes w n c rs ca x l) (sym p)
         (subst (λ x. Writes w n c rs ca (turnsCacheOff w v) x) (sym q) write-goes-on)
 
+    -- the last clock of a line
+    pub write-end : c .running .count ≡ 9 → (t : Bool) (l : ℕ) → t ≡ turnsCacheOff w v → l ≡ writeLine paperGeometry w n v ca
+        → Does w n c rs ca (writing paperGeometry t l 9 c ca)
+    write-end e t l p q = subst (λ k. Does w n c rs ca (writing paperGeometry t l k c ca)) e (write-at t l p q .goes)
+
   -- phase 3
   fill-goes-on : c .running .phase ≡ 3 → Plan (Fill (targetBlock paperGeometry w v n)) w n c rs ca
   unfolding burst targetLine lineOf
@@ -173,7 +178,25 @@ module _ (w n : ℕ) (c : Scalars) (rs : List ℕ) (ca : Cache) (f : Facts w n c
   pub fill-at : c .running .phase ≡ 3 → (b : ℕ) → b ≡ targetBlock paperGeometry w v n → Fills w n c rs ca b
   fill-at ph b q = subst (λ x. Fills w n c rs ca x) (sym q) (fill-goes-on ph)
 
-  -- phase 4
+  -- its last clock
+  pub fill-end : c .running .phase ≡ 3 → c .running .count ≡ 9 → (b : ℕ) → b ≡ targetBlock paperGeometry w v n
+      → Does w n c rs ca (filling paperGeometry b (b % 16) 9 c ca)
+  fill-end ph e b q = subst (λ k. Does w n c rs ca (filling paperGeometry b (b % 16) k c ca)) e (fill-at ph b q .goes)
+
+  -- phase 4: what is left of the phases
+  pub wait-left : c .running .phase ≢ 0 → c .running .phase ≢ 5 → c .running .phase ≢ 1 → c .running .phase ≢ 2 → c .running .phase ≢ 3
+      → c .running .phase ≡ 4
+  wait-left p0 p5 p1 p2 p3 = go (f .phase)
+    where
+      go : Phase paperGeometry w n (kindOf w v n) (c .running) v ca → c .running .phase ≡ 4
+      go (ready p e) = absurd (p0 p)
+      go (arithmetic k p a b) = absurd (p1 p)
+      go (writeBack k p h x d) = absurd (p2 p)
+      go (clearingOff k p h s) = absurd (p2 p)
+      go (refill k p h e) = absurd (p3 p)
+      go (waiting k p a b) = p
+      go (due p e d) = absurd (p5 p)
+
   module _ (ph : c .running .phase ≡ 4) where
     pub waiting-is : (kindOf w v n ≡ uncached) × (c .running .count < uncachedCharge w)
     waiting-is = go (f .phase)

@@ -2,7 +2,7 @@
 -- Idea: with the operation known every test of `kindOf` computes.
 -- Assumes nothing.
 use Prim.Native.Nat.{ℕ, _/_, _%_, _≤_, _<_}
-use mathlib.Core.Path.{_≡_, refl}
+use mathlib.Core.Path.{_≡_, refl, sym, ap, _∙_, subst}
 use mathlib.Core.Logic.{_≢_}
 use mathlib.Core.Bool.{Bool, true, false, _||_}
 use lib.Dec.{eqb}
@@ -11,6 +11,7 @@ use native.Mathlib.Decide.{ℕ-discrete}
 use native.Mathlib.Omega.{arith}
 use Rattle.trm_laws.proofs.Tests.{clash}
 use Rattle.trm_word.specs.Fields.{operation, bit}
+use Rattle.trm_word.specs.Charge.{chargeOf}
 use Rattle.trm_word.specs.declared.inner.address.Place.the-variants.{Device, Memory}
 use Rattle.trm_reference.specs.Geometry.{paperGeometry, blockOf, lineOf}
 use Rattle.trm_reference.specs.Visible.{Visible, cacheOn}
@@ -19,6 +20,8 @@ use Rattle.trm_reference.specs.Execute.{branchTaken}
 use Rattle.trm_reference.specs.Charge.{isStepped, isJump, takesBranch, turnsCacheOff}
 use Rattle.trm_cache.specs.Cache.{Cache, lineAt, holds}
 use Rattle.trm_core.specs.Clock.{lineFor, hits}
+use Rattle.trm_core.specs.Rule.{allBelow}
+use Rattle.trm_core.proofs.Laws.Fit.{below-all}
 use Rattle.trm_core.proofs.Laws.Kind.{kindOf, quick, second, longer, device, cached, uncached, clearing}
 
 -- LD and ST
@@ -49,9 +52,27 @@ stepped-of w l h t = go (ℕ-discrete (operation w) 8)
     go (yes e) = rw e
     go (no z) = rw (ne-eqb (operation w) 8 z) (eq-eqb (operation w) 9 (omega (arith, l, h, t, z)))
 
+-- of 0 to 10 just 8 and 9 are charged more than 1
+pub charged-of : (w : ℕ) → operation w < 11 → chargeOf (operation w) ≢ 1 → isStepped w ≡ true
+unfolding isStepped allBelow
+charged-of w h q = go (eqb (operation w) 8 || eqb (operation w) 9) refl
+  where
+    all : (o : ℕ) → o < 11 → (eqb o 8 || eqb o 9) || eqb (chargeOf o) 1 ≡ true
+    all o l = below-all 11 (λ k. (eqb k 8 || eqb k 9) || eqb (chargeOf k) 1) refl o l
+
+    go : (t : Bool) → eqb (operation w) 8 || eqb (operation w) 9 ≡ t → t ≡ true
+    go true e = refl
+    go false e = absurd (q (eqb-true (chargeOf (operation w)) 1 (sym (ap (λ (t : Bool). t || eqb (chargeOf (operation w)) 1) e)
+        ∙ all (operation w) h)))
+
 pub unstepped-of : (w : ℕ) → operation w ≢ 8 → operation w ≢ 9 → isStepped w ≡ false
 unfolding isStepped
 unstepped-of w a b = rw (ne-eqb (operation w) 8 a) (ne-eqb (operation w) 9 b)
+
+pub cheap-of : (w : ℕ) → chargeOf (operation w) ≡ 1 → isStepped w ≡ false
+cheap-of w q = unstepped-of w
+    (λ e. absurd (let z : chargeOf 8 ≡ 1 = subst (λ k. chargeOf k ≡ 1) e q in omega (arith, z)))
+    (λ e. absurd (let z : chargeOf 9 ≡ 1 = subst (λ k. chargeOf k ≡ 1) e q in omega (arith, z)))
 
 module _ (w n : ℕ) (v : Visible) where
   pub kind-stepped : isStepped w ≡ true → kindOf w v n ≡ longer

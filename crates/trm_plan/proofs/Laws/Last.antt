@@ -116,7 +116,7 @@ pub last-made : (w n : ℕ) (c : Scalars) (rs : List ℕ) (ca : Cache) (s : List
     (s′ : List ℕ) → r .scalars ≡ ended c (execute w (gathered c rs) x) → rs′ ≡ execute w (gathered c rs) x .regs
     → ca′ ≡ cacheAfter paperGeometry w n (gathered c rs) ca → s′ ≡ storeAfter w n (gathered c rs) s
     → (isLoad w ≡ true → x ≡ loaded w (gathered c rs) n i (view paperGeometry ca s (target w (gathered c rs) n)))
-    → r .byte ≡ answerOf w (gathered c rs) n i .byte → r .word ≡ answerOf w (gathered c rs) n i .word → r .done ≡ 1
+    → r .byte ≡ answerOf w (gathered c rs) n i .byte → r .word ≡ answerOf w (gathered c rs) n i .word → r .finished ≡ 1
     → made r rs′ ca′ s′ ≡ finish paperGeometry w n (whole c rs ca) s i
 unfolding finish
 last-made w n c rs ca s i x r rs′ ca′ s′ q1 q2 q3 q4 l b o d =

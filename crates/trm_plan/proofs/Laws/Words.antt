@@ -1,14 +1,14 @@
 -- The last clock, by what the word is: one that accesses nothing, 11, LD, ST.
 -- Idea: `last-made` with the cache, the store, the loaded word and the answer that the word's operation and place give.
 -- Assumes nothing.
-use Prim.Native.Nat.{ℕ, _+_, _*_, _/_, _^_, _≤_}
+use Prim.Native.Nat.{ℕ, _+_, _*_, _/_, _^_, _≤_, _<_}
 use mathlib.Core.Path.{_≡_, refl, sym, ap, _∙_}
 use mathlib.Core.Logic.{_≢_}
 use mathlib.Core.Bool.{Bool, true, false, cond, _&&_, _||_, and-false}
 use mathlib.Core.List.{List}
-use lib.Dec.{eqb}
+use lib.Dec.{eqb, leb}
 use lib.ListN.{set}
-use borrow.Author.Tests.{ne-eqb, eqb-true}
+use borrow.Author.Tests.{ne-eqb, eqb-true, leb-true, leb-false}
 use native.Mathlib.Nat.{mod-lt}
 use native.Mathlib.Omega.{arith}
 use Rattle.trm_laws.proofs.Match.{NoneFrom, past}
@@ -18,18 +18,8 @@ use Rattle.trm_word.specs.declared.inner.address.Place.{Place}
 use Rattle.trm_word.specs.declared.inner.address.Place.the-variants.{Device, Memory}
 use Rattle.trm_reference.specs.Geometry.{paperGeometry, burst}
 use Rattle.trm_reference.specs.Visible.{Visible}
-use Rattle.trm_reference.specs.Access.{
-  isLoad,
-  isStore,
-  isAccess,
-  isMemory,
-  placeOfWord,
-  deviceNumber,
-  toMemory,
-  toDevice,
-  target,
-  memoryIndex,
-}
+use Rattle.trm_reference.specs.Access.{isLoad, isStore, isAccess, isMemory, placeOfWord}
+use Rattle.trm_reference.specs.Access.{deviceNumber, toMemory, toDevice, target, memoryIndex}
 use Rattle.trm_reference.specs.Access.{stored, loaded, silent, deviceAnswer, answerOf}
 use Rattle.trm_reference.specs.Execute.{execute}
 use Rattle.trm_reference.specs.Charge.{throughCache, pastCache, turnsCacheOff}
@@ -44,7 +34,7 @@ use Rattle.trm_plan.proofs.Laws.Last.{other-store, only-load, not-load,
 
 -- the result of a clock that carries a word out
 abbrev pub shows : Scalars → ℕ → ℕ → Clocked
-shows after byte word = record { scalars = after; byte = byte; word = word; done = 1 }
+shows after byte word = record { scalars = after; byte = byte; word = word; finished = 1 }
 
 module _ (w n i : ℕ) (v : Visible) where
   pub answer-none : operation w ≢ 12 → operation w ≢ 13 → answerOf w v n i ≡ silent 1
@@ -217,3 +207,14 @@ jump-keeps w v ca b = rw (b, and-false (eqb (operation w) 11))
 pub call-left : (w : ℕ) → 11 ≤ operation w → NoneFrom 11 4 (operation w) → operation w ≡ 15
 call-left w m r =
     let h = mod-lt (w / 2 ^ 14) {m = 2 ^ 4} (omega arith) in let k = past 11 4 (operation w) m r in omega (arith, h, k)
+
+-- and after 11 to 15
+pub arithmetic-left : (w : ℕ) → NoneFrom 11 5 (operation w) → operation w < 11
+arithmetic-left w r = go (leb 11 (operation w)) refl
+  where
+    go : (t : Bool) → leb 11 (operation w) ≡ t → operation w < 11
+    go true e =
+        let h = mod-lt (w / 2 ^ 14) {m = 2 ^ 4} (omega arith) in
+        let k = past 11 5 (operation w) (leb-true 11 (operation w) e) r in
+        absurd (omega (arith, h, k))
+    go false e = leb-false 11 (operation w) e

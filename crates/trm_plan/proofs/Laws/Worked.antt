@@ -20,7 +20,7 @@ use Rattle.trm_plan.specs.Made.{made}
 
 -- the result of a clock that carries nothing out
 abbrev pub rests : Scalars → Clocked
-rests after = record { scalars = after; byte = 0; word = 0; done = 0 }
+rests after = record { scalars = after; byte = 0; word = 0; finished = 0 }
 
 module _ (w n : ℕ) (c : Scalars) (rs : List ℕ) (ca : Cache) (s : List ℕ) (i : ℕ) where
   pub ends-worked : isLast paperGeometry w n (c .running) (gathered c rs) ca ≡ true → (t : After Lent Answer)

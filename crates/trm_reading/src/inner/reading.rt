@@ -4,7 +4,7 @@
 ghost use mathlib.Core.Path.{_≡_};
 ghost use mathlib.Core.Bool.{true};
 ghost use Prim.Native.Nat.{_<_};
-ghost use Rattle.trm_word.specs.Fields.{movesHigh};
+ghost use Rattle.trm_word.specs.Fields.{bit, movesHigh};
 ghost use Rattle.trm_word.specs.Address.{storeLengthOk};
 ghost use Rattle.trm_reference.specs.Visible.{registerIndex, register, cacheOn, wordAt};
 ghost use Rattle.trm_reference.specs.Access.{isLoad, isStore, isAccess, addressOf, placeOfWord, target, stored};
@@ -41,14 +41,12 @@ pub fn register_at(c: Scalars, regs: &[u32; 16], r: u32) -> u32
     regs[i]
 }
 
-// MOV takes H if bits 10 and 3 are both set.
+// MOV takes H if bits 10 and 3 are both set; bit 10 is, by the caller's test.
 fn moves_high(w: u32) -> bool
+    requires { ⌜ bit 10 w ≡ 1 ⌝ }
     ensures { λ r. ⌜ r ≡ movesHigh w ⌝ }
 {
     if w / 0x4000 % 16 != 0 {
-        return false;
-    }
-    if w / 1024 % 2 != 1 {
         return false;
     }
     w / 8 % 2 == 1

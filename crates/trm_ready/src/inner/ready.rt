@@ -133,7 +133,7 @@ fn load(
     }
 }
 
-// The word w begins, 8 to 15: one match on the operation, 0-10 its arithmetic arm.
+// The word w begins, 8 to 15: a match on the operation; what is left are 8 to 10 (D-27).
 fn begin(
     g: Going,
     program: &[u32],
@@ -164,20 +164,6 @@ fn begin(
     let at = g.at;
     let op = w / 0x4000 % 16;
     match op {
-        0..=10 => {
-            let r = first::first_arithmetic(
-                g.scalars,
-                regs,
-                full,
-                dirty,
-                block,
-                words,
-                store,
-                w,
-                inputs[at],
-            );
-            going::went(g, r, bytes, outs)
-        }
         11 => {
             let r = first::first_control(
                 g.scalars,
@@ -222,7 +208,21 @@ fn begin(
             going::went(g, r, bytes, outs)
         }
         14 => branch(g, regs, full, dirty, block, words, store, w, lines),
-        _ => enters(g, 5, 0),
+        15 => enters(g, 5, 0),
+        _ => {
+            let r = first::first_arithmetic(
+                g.scalars,
+                regs,
+                full,
+                dirty,
+                block,
+                words,
+                store,
+                w,
+                inputs[at],
+            );
+            going::went(g, r, bytes, outs)
+        }
     }
 }
 

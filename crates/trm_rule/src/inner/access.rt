@@ -6,7 +6,7 @@ ghost use mathlib.Core.Bool.{true};
 ghost use Prim.Native.Nat.{_<_};
 ghost use Rattle.trm_word.specs.Address.{storeLengthOk};
 ghost use Rattle.trm_reference.specs.Geometry.{paperGeometry};
-ghost use Rattle.trm_reference.specs.Access.{isMemory, toMemory, toDevice, targetBlock, targetLine};
+ghost use Rattle.trm_reference.specs.Access.{isMemory, isAccess, toMemory, toDevice, targetBlock, targetLine};
 ghost use Rattle.trm_reference.specs.Charge.{isStepped, isJump, takesBranch, throughCache, pastCache};
 ghost use Rattle.trm_cache.specs.Cache.{cache};
 ghost use Rattle.trm_core.specs.Record.{gathered};
@@ -35,14 +35,11 @@ pub fn to_memory(c: Scalars, regs: &[u32; 16], w: u32, n: u64) -> bool
     is_memory(trm_reading::inner::reading::place_of_word(c, regs, w, n))
 }
 
-// 12 and 13 to a device.
+// 12 and 13 to a device; that the word is one of the two the caller knows.
 pub fn to_device(c: Scalars, regs: &[u32; 16], w: u32, n: u64) -> bool
-    requires { ⌜ storeLengthOk n ≡ true ⌝ }
+    requires { ⌜ (storeLengthOk n ≡ true) × (isAccess w ≡ true) ⌝ }
     ensures { λ r. ⌜ r ≡ toDevice w (gathered c (now (regs .entry))) n ⌝ }
 {
-    if !trm_reading::inner::reading::is_access(w) {
-        return false;
-    }
     !is_memory(trm_reading::inner::reading::place_of_word(c, regs, w, n))
 }
 

@@ -1,9 +1,11 @@
 // Row 5, the record rule: a function for each named part of it.
 // Paper: "The record holds phase and count: ..", "Phase 1 needs ..", row 5 of the table.
-// The parts are those of trm_core's Rule, and each ends at the first clause that fails.
+// The parts are those of trm_core's Rule, and each ends at the first clause that fails. The counts of phases 1 and 4 are held to the
+// table of base charges in trm_word.
 ghost use mathlib.Core.Path.{_≡_};
-ghost use mathlib.Core.Bool.{true, cond, not, _&&_};
+ghost use mathlib.Core.Bool.{true, not, _&&_};
 ghost use Prim.Native.Nat.{_<_, _≤_};
+ghost use lib.ListN.{getD};
 ghost use lib.Dec.{eqb};
 ghost use Rattle.trm_word.specs.Address.{storeLengthOk};
 ghost use Rattle.trm_reference.specs.Geometry.{paperGeometry};
@@ -106,30 +108,22 @@ fn registers_ok(c: Scalars, regs: &[u32; 16], w: u32) -> bool
     c.running.quotient == 0
 }
 
-// Phase 1.
+// Phase 1, "1-32": the greatest count is one less than the base charge, "33: 32 steps, then the result".
 fn arithmetic_ok(w: u32, count: u64) -> bool
     ensures { λ r. ⌜ r ≡ arithmeticOk w count ⌝ }
 {
     if count < 1 {
         return false;
     }
-    if count > 32 {
+    if !super::access::is_stepped(w) {
         return false;
     }
-    super::access::is_stepped(w)
+    let charge = trm_word::inner::charge::base_charge((w / 0x4000 % 16) as usize);
+    count < charge
 }
 
-// The most waits past the cache.
-fn most_waits(w: u32) -> u64
-    ensures { λ r. ⌜ r ≡ cond (isLoad w) 5 4 ⌝ }
-{
-    if trm_reading::inner::reading::is_load(w) {
-        return 5;
-    }
-    4
-}
-
-// Phase 4.
+// Phase 4, "1-5 for LD, 1-4 for ST": the greatest count is one less than the charge with the cache off, "6, 5", which is the base
+// charge and 4 more.
 fn wait_ok(c: Scalars, regs: &[u32; 16], w: u32, n: u64, count: u64) -> bool
     requires { ⌜ storeLengthOk n ≡ true ⌝ }
     ensures { λ r. ⌜ r ≡ waitOk w n count (gathered c (now (regs .entry))) ⌝ }
@@ -137,10 +131,11 @@ fn wait_ok(c: Scalars, regs: &[u32; 16], w: u32, n: u64, count: u64) -> bool
     if count < 1 {
         return false;
     }
-    if count > most_waits(w) {
+    if !super::access::past_cache(c, regs, w, n) {
         return false;
     }
-    super::access::past_cache(c, regs, w, n)
+    let uncached = trm_word::inner::charge::base_charge((w / 0x4000 % 16) as usize) + 4;
+    count < uncached
 }
 
 // Whether the cache has a dirty line.
@@ -375,8 +370,8 @@ fn marks_ok(
     dirty[l] < 2
 }
 
-// A full line's block is its own and in the store, the cache being on; an empty one is clean with block 0.
-fn line_ok(
+// A full line: the cache is on, its block is its own and in the store.
+fn full_ok(
     on: bool,
     n: u64,
     full: &[u8; 16],
@@ -385,27 +380,33 @@ fn line_ok(
     words: &[u32; 128],
     l: usize,
 ) -> bool
-    requires { ⌜ l < 16 ⌝ }
+    requires { ⌜ (l < 16)
+        × (lineAt paperGeometry (cache (now full) (now dirty) (now block) (now words)) l .full ≡ true) ⌝ }
     ensures { λ r. ⌜ r ≡ lineOk paperGeometry on n l
         (lineAt paperGeometry (cache (now (full .entry)) (now (dirty .entry)) (now (block .entry)) (now (words .entry))) l) ⌝ }
 {
     let b = trm_cache::inner::lines::line_block(full, dirty, block, words, l);
-    if trm_cache::inner::lines::line_full(full, dirty, block, words, l) {
-        if !on {
-            return false;
-        }
-        if b % 16 != l as u64 {
-            return false;
-        }
-        return b * 8 + 8 <= n;
-    }
-    if trm_cache::inner::lines::line_dirty(full, dirty, block, words, l) {
+    if !on {
         return false;
     }
-    b == 0
+    if b % 16 != l as u64 {
+        return false;
+    }
+    b * 8 + 8 <= n
 }
 
-// One line of the cache: its marks, and what a full and an empty line may be.
+// An empty line is clean and has block 0.
+fn empty_ok(dirty: &[u8; 16], block: &[u16; 16], l: usize) -> bool
+    requires { ⌜ l < 16 ⌝ }
+    ensures { λ r. ⌜ r ≡ (eqb (getD (now (dirty .entry)) l 0) 0 && eqb (getD (now (block .entry)) l 0) 0) ⌝ }
+{
+    if dirty[l] != 0 {
+        return false;
+    }
+    block[l] == 0
+}
+
+// One line of the cache: its marks, and what a full and an empty line may be. Empty ones come first: fewest tests.
 fn good_line(
     on: bool,
     n: u64,
@@ -421,10 +422,13 @@ fn good_line(
         && lineOk paperGeometry on n l
         (lineAt paperGeometry (cache (now (full .entry)) (now (dirty .entry)) (now (block .entry)) (now (words .entry))) l)) ⌝ }
 {
+    if full[l] == 0 {
+        return empty_ok(dirty, block, l);
+    }
     if !marks_ok(full, dirty, block, words, l) {
         return false;
     }
-    line_ok(on, n, full, dirty, block, words, l)
+    full_ok(on, n, full, dirty, block, words, l)
 }
 
 // Every line.

@@ -6,7 +6,7 @@
 use Prim.Native.Nat.{ℕ, _+_, _*_, _/_, _%_, _^_, _≤_, _<_}
 use mathlib.Core.Path.{_≡_, sym, ap, _∙_}
 use mathlib.Core.Logic.{_≢_}
-use mathlib.Core.Bool.{Bool, true, false, cond}
+use mathlib.Core.Bool.{true, cond}
 use lib.Dec.{eqb}
 use borrow.Author.Tests.{ne-eqb}
 use native.Mathlib.Omega.{arith}
@@ -24,7 +24,7 @@ use Rattle.trm_core.specs.Record.{productAt, remainderAt, quotientAt, stepping}
 use Rattle.trm_core.specs.Rule.{registersOk}
 use Rattle.trm_core.proofs.Laws.Rule.{registers-from}
 use Rattle.trm_steps.specs.declared.inner.unit.Unit.{Unit}
-use Rattle.trm_steps.specs.Steps.{Steps, Serves, multiplied, dividedBy}
+use Rattle.trm_steps.specs.Steps.{Serves}
 use Rattle.trm_steps.specs.Unit.{Packs, inFlight}
 use Rattle.trm_steps.proofs.Laws.Steps.{mul-next, divides-if, multiplies, divides, multiplied-is, divided-is}
 

@@ -30,7 +30,7 @@ pub fn advance(c: Scalars, running: Running, refilled: u64, written: u64) -> Sca
 {
     let mut next = c;
     next.running = running;
-    let clocks = next.counts.clocks + 1;
+    let clocks = next.counts.clocks + 1; // a step, too, is a clock
     next.counts.clocks = clocks;
     let refills = next.counts.refills + refilled;
     next.counts.refills = refills;
@@ -60,7 +60,7 @@ pub fn settle(c: Scalars) -> Scalars
     let mut next = c;
     let running = in_phase(0, 0);
     next.running = running;
-    let clocks = next.counts.clocks + 1;
+    let clocks = next.counts.clocks + 1; // an acknowledgement, too, is a clock
     next.counts.clocks = clocks;
     next
 }

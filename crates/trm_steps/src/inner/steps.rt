@@ -5,9 +5,7 @@ ghost use mathlib.Core.Path.{_≡_};
 ghost use mathlib.Core.Logic.{_≢_};
 ghost use Prim.Native.Nat.{_+_};
 ghost use Rattle.trm_core.specs.Record.{gathered, stepping};
-ghost use Rattle.trm_reference.specs.Visible.{Visible};
-ghost use Rattle.trm_reference.specs.Execute.{operandA, operandB};
-ghost use Rattle.trm_steps.specs.Steps.{Steps, Serves, Multiplies, Divides, multiplied, dividedBy};
+ghost use Rattle.trm_steps.specs.Steps.{Steps, Multiplies, Divides, multiplied, dividedBy};
 use trm_core::record::Running;
 use trm_core::record::Scalars;
 use trm_reading::inner::reading;
@@ -104,25 +102,4 @@ pub fn first_step(c: Scalars, regs: &[u32; 16], w: u32) -> Running
         return multiplier_first(a, b);
     }
     divider_first(a, b)
-}
-
-// A later step of the word's own unit, A and B being there.
-pub fn later_step(r: Running, w: u32, a: u32, b: u32) -> Running
-    requires { ⌜ Serves w r a b ⌝ }
-    ensures { λ s. ⌜ ((v : Visible) → a ≡ operandA w v → b ≡ operandB w v → s ≡ stepping w v (r .count + 1)) ⌝ }
-{
-    if w / 0x4000 % 16 == 8 {
-        return multiplier_next(r, a, b);
-    }
-    divider_next(r, a, b)
-}
-
-// A later step of the word's own unit.
-pub fn next_step(c: Scalars, regs: &[u32; 16], w: u32) -> Running
-    requires { ⌜ Steps w (c .running) (gathered c (now regs)) × (c .running .phase ≡ 1) ⌝ }
-    ensures { λ r. ⌜ r ≡ stepping w (gathered c (now (regs .entry))) (c .running .count + 1) ⌝ }
-{
-    let a = reading::operand_a(c, regs, w);
-    let b = reading::operand_b(c, regs, w);
-    later_step(c.running, w, a, b)
 }

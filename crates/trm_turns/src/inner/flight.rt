@@ -1,6 +1,6 @@
 // One turn of a run with a word in flight: the clocks of its phase, one after another, and the one after them.
 // Paper: "In 1 to 4 the count is the clocks of that phase done".
-// The clocks that cannot be the last of their phase go ahead in a loop; the next one, if it is not held, is a clock by itself.
+// The clocks that cannot be the last of their phase go ahead in a loop; the next one, if it is not held, is the last.
 ghost use mathlib.Core.Path.{_≡_};
 ghost use mathlib.Core.Logic.{_≢_};
 ghost use mathlib.Core.Bool.{false};
@@ -47,12 +47,12 @@ fn step_turn(
         (now (store .exit)))
         (now (bytes .exit)) (now (outs .exit)) × (g .at < r .at) ⌝ }
 {
-    let h = serial::steps_ahead(g, regs, full, dirty, block, words, store, w, lines);
+    let h = serial::steps_ahead(g, regs, full, dirty, block, words, store, w, lines, base);
     let at = h.at;
     if !going::due(lines, at) {
         return h;
     }
-    let r = flight::next_step(
+    let r = flight::end_steps(
         h.scalars,
         regs,
         full,
@@ -62,7 +62,6 @@ fn step_turn(
         store,
         w,
         inputs[at],
-        base,
     );
     going::went(h, r, bytes, outs)
 }
@@ -100,7 +99,7 @@ fn write_turn(
     if !going::due(lines, at) {
         return h;
     }
-    let r = flight::next_write(
+    let r = flight::end_write(
         h.scalars,
         regs,
         full,
@@ -147,7 +146,7 @@ fn fill_turn(
     if !going::due(lines, at) {
         return h;
     }
-    let r = flight::next_fill(
+    let r = flight::end_fill(
         h.scalars,
         regs,
         full,
@@ -195,7 +194,7 @@ fn wait_turn(
     if !going::due(lines, at) {
         return h;
     }
-    let r = flight::next_wait(
+    let r = flight::end_wait(
         h.scalars,
         regs,
         full,
@@ -205,7 +204,6 @@ fn wait_turn(
         store,
         w,
         inputs[at],
-        base,
     );
     going::went(h, r, bytes, outs)
 }

@@ -1,9 +1,11 @@
 // The first clock of a word, in phase 0: a word of one clock is carried out, any other begins.
 // Paper: the clock table.
-// 0-7 are told apart first, as in a run.
+// One match on the operation number has 0-10 as its arithmetic arm (D-27); the table of base charges tells what ends at once.
 ghost use mathlib.Core.Path.{_≡_};
+ghost use Prim.Native.Nat.{_<_};
 ghost use lib.ListN.{length};
 ghost use Rattle.trm_word.specs.Fields.{operation};
+ghost use Rattle.trm_word.specs.Charge.{charges};
 ghost use Rattle.trm_reference.specs.Geometry.{paperGeometry};
 ghost use Rattle.trm_cache.specs.Cache.{cache};
 ghost use Rattle.trm_core.specs.Record.{whole};
@@ -18,6 +20,7 @@ use trm_motion::inner::motion;
 use trm_plan::inner::outcome;
 use trm_plan::inner::outcome::Clocked;
 use trm_reading::inner::reading;
+use trm_steps::inner::steps;
 use trm_word::inner::address::Place;
 
 // 12 LD: past the cache the first wait; of a miss the looking clock; of a hit or a device the last clock is due.
@@ -83,6 +86,32 @@ fn first_branch(
     outcome::carried(carry::pass(c, regs, w))
 }
 
+// 0 to 10: one whose base charge is 1 is carried out, the others take their first step.
+fn first_arithmetic(
+    c: Scalars,
+    regs: &mut [u32; 16],
+    full: &mut [u8; 16],
+    dirty: &mut [u8; 16],
+    block: &mut [u16; 16],
+    words: &mut [u32; 128],
+    store: &mut [u32],
+    w: u32,
+    input: u32,
+    base: &[u64; 16],
+) -> Clocked
+    requires { ⌜ (Good w (length (now store)) c (now regs) (cache (now full) (now dirty) (now block) (now words)))
+        × (c .running .phase ≡ 0) × (operation w < 11) × (now base ≡ charges) ⌝ }
+    ensures { λ r. ⌜ made r (now (regs .exit)) (cache (now (full .exit)) (now (dirty .exit)) (now (block .exit)) (now (words .exit)))
+        (now (store .exit))
+        ≡ worked paperGeometry w (length (now (store .entry))) (whole c (now (regs .entry)) (cache (now (full .entry)) (now
+        (dirty .entry)) (now (block .entry)) (now (words .entry)))) (now (store .entry)) input ⌝ }
+{
+    if base[(w / 0x4000 % 16) as usize] == 1 {
+        return outcome::carried(carry::short(c, regs, w));
+    }
+    outcome::goes_on(c, steps::first_step(c, regs, w), 0, 0)
+}
+
 // The word w begins: one match on the operation, 0-10 its arithmetic arm.
 pub fn first_clock(
     c: Scalars,
@@ -94,20 +123,18 @@ pub fn first_clock(
     store: &mut [u32],
     w: u32,
     input: u32,
+    base: &[u64; 16],
 ) -> Clocked
     requires { ⌜ (Good w (length (now store)) c (now regs) (cache (now full) (now dirty) (now block) (now words)))
-        × (c .running .phase ≡ 0) ⌝ }
+        × (c .running .phase ≡ 0) × (now base ≡ charges) ⌝ }
     ensures { λ r. ⌜ made r (now (regs .exit)) (cache (now (full .exit)) (now (dirty .exit)) (now (block .exit)) (now (words .exit)))
         (now (store .exit))
         ≡ worked paperGeometry w (length (now (store .entry))) (whole c (now (regs .entry)) (cache (now (full .entry)) (now
         (dirty .entry)) (now (block .entry)) (now (words .entry)))) (now (store .entry)) input ⌝ }
 {
     let op = w / 0x4000 % 16;
-    if op < 8 {
-        return outcome::carried(carry::short(c, regs, w));
-    }
     match op {
-        0..=10 => begun::first_arithmetic(c, regs, full, dirty, block, words, store, w, input),
+        0..=10 => first_arithmetic(c, regs, full, dirty, block, words, store, w, input, base),
         11 => begun::first_control(c, regs, full, dirty, block, words, store, w, input),
         12 => first_load(c, regs, full, dirty, block, words, store, w, input),
         13 => begun::first_store(c, regs, full, dirty, block, words, store, w, input),

@@ -1,15 +1,12 @@
 -- The proof of trm_calls::calls::clock.
+use mathlib.Core.Path.{sym, ap, _∙_}
+use Rattle.trm_refusals.specs.Numbers.{numberOf}
 use Rattle.trm_refusals.proofs.Laws.{code-zero}
 use borrow.Author.Tests.{not-true, not-false}
 use Rattle.trm_calls.specs.Promises.{clockGives}
 use borrow.Author.Needs.{needs}
 use Rattle.trm_calls.proofs.calls.clock.Statement.{statement}
 use Rattle.trm_calls.proofs.calls.clock.Tie as tie
-use Rattle.trm_calls.proofs.calls.clock.Reads as reads
-use Rattle.trm_calls.proofs.calls.clock.Lts as lts
-use Rattle.trm_engine.proofs.machine.Machine.clock.Reads as clock-reads
-use Rattle.trm_refusals.proofs.inner.calls.clock_refusal.Reads as clock-refusal-reads
-use Rattle.trm_refusals.proofs.inner.record.accepted.Reads as accepted-reads
 
 clock-refusal-requires : tie.Need-clock-refusal-requires
 clock-refusal-requires c κs = search needs
@@ -45,16 +42,16 @@ same-length-2 c = search needs
 returns-2 : tie.Need-returns-2
 unfolding clockGives
 returns-2 c =
+    let e = c .before .before .clock .ensures in
     record {
-      number = c .before .before .before .before .before .before .before .clock-refusal .ensures;
+      number = ap numberOf (e .0) ∙ sym (code-zero (c .before .before .before .before .before .before .clock-refusal .ensures)
+          (c .before .before .before .before .before .accepted .ensures) (not-false
+          (c .before .before .before .before .before .accepted .result) (c .before .before .before .before .if1 .left)));
       outcome = rw (
-        ← c .before
-            .before .before .before .before .before .before .clock-refusal .ensures,
-        ← c .before .before .before .before .before .before
-            .accepted .ensures,
-        not-false (c .before .before .before .before .before .before .accepted .result) (c .before .before .before
-            .before .before .if1 .left),
-      ) (c .before .before .before .clock .ensures);
+        ← c .before .before .before .before .before .before .clock-refusal .ensures,
+        ← c .before .before .before .before .before .accepted .ensures,
+        not-false (c .before .before .before .before .before .accepted .result) (c .before .before .before .before .if1 .left),
+      ) (e .1);
     }
 
 pub clock-spec : {M : Type 1} → statement M

@@ -5,11 +5,6 @@ use Rattle.trm_calls.specs.Promises.{runGives}
 use borrow.Author.Needs.{needs}
 use Rattle.trm_calls.proofs.calls.run.Statement.{statement}
 use Rattle.trm_calls.proofs.calls.run.Tie as tie
-use Rattle.trm_calls.proofs.calls.run.Reads as reads
-use Rattle.trm_calls.proofs.calls.run.Lts as lts
-use Rattle.trm_engine.proofs.machine.Machine.run.Reads as run-reads
-use Rattle.trm_refusals.proofs.inner.calls.run_refusal.Reads as run-refusal-reads
-use Rattle.trm_refusals.proofs.inner.record.accepted.Reads as accepted-reads
 
 run-refusal-requires : tie.Need-run-refusal-requires
 run-refusal-requires c κs = search needs

@@ -30,7 +30,7 @@ loop-holds c = on-none _ _ _ _ _ _ _ (c .before .before .before .before .pre .1)
 returns : tie.Need-returns Inv-loop μ-loop
 returns c =
     let n = c .before .before .before .loop .inv in
-    (n .quietly, ap (λ (v : Visible). v .pc) (n .seen), n .phase, n .onto, refl)
+    (n .quietly, ap (λ (v : Visible). v .pc) (n .seen), n .phase, n .onto, refl, λ _. c .if1 .taken)
 
 shared-slice-read-fill-clock : tie.Need-shared-slice-read-fill-clock Inv-loop μ-loop
 shared-slice-read-fill-clock c = c .before .before .before .before .loop-test .taken
@@ -72,7 +72,20 @@ loop-again c =
     .ensures)) _ _ (c .fill-clock .ensures .0) (c .fill-clock .ensures .1)
 
 returns-2 : tie.Need-returns-2 Inv-loop μ-loop
-returns-2 c = let n = c .before .loop .inv in (n .quietly, ap (λ (v : Visible). v .pc) (n .seen), n .phase, n .onto, refl)
+returns-2 c =
+    let n = c .before .loop .inv in (
+      n .quietly,
+      ap (λ (v : Visible). v .pc) (n .seen),
+      n .phase,
+      n .onto,
+      refl,
+      λ more. absurd (omega (
+        arith,
+        more,
+        c .loop-test
+            .left,
+      )),
+    )
 
 pub fill-ahead-spec : {M : Type 1} → statement M
 fill-ahead-spec =

@@ -58,8 +58,16 @@ add-if1 c =
 returns : tie.Need-returns Inv-loop μ-loop
 unfolding uncachedCharge
 returns c =
-    let n = c .before .before .before .loop .inv in
-    (n .quietly, ap (λ (v : Visible). v .pc) (n .seen), n .phase, n .onto, refl)
+    let n = c .before .before .before .loop .inv in (
+      n .quietly,
+      ap (λ (v : Visible). v .pc) (n .seen),
+      n .phase,
+      n .onto,
+      refl,
+      λ _. c .if1 .taken ∙ ap (λ l. getD l (operation
+          (c .before .before .before .before .before .before .before .before .args .w)) 0 + 4)
+          (c .before .before .before .before .before .before .before .before .pre .2),
+    )
 
 shared-slice-read-wait-clock : tie.Need-shared-slice-read-wait-clock Inv-loop μ-loop
 unfolding uncachedCharge
@@ -98,7 +106,20 @@ loop-again c =
 
 returns-2 : tie.Need-returns-2 Inv-loop μ-loop
 unfolding uncachedCharge
-returns-2 c = let n = c .before .loop .inv in (n .quietly, ap (λ (v : Visible). v .pc) (n .seen), n .phase, n .onto, refl)
+returns-2 c =
+    let n = c .before .loop .inv in (
+      n .quietly,
+      ap (λ (v : Visible). v .pc) (n .seen),
+      n .phase,
+      n .onto,
+      refl,
+      λ more. absurd (omega (
+        arith,
+        more,
+        c .loop-test
+            .left,
+      )),
+    )
 
 pub wait-ahead-spec : {M : Type 1} → statement M
 wait-ahead-spec =

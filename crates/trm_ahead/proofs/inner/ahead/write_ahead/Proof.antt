@@ -38,7 +38,7 @@ same-length c =
 returns : tie.Need-returns Inv-loop μ-loop
 returns c =
     let n = c .before .before .before .loop .inv in
-    (n .quietly, ap (λ (v : Visible). v .pc) (n .seen), n .phase, n .onto, refl)
+    (n .quietly, ap (λ (v : Visible). v .pc) (n .seen), n .phase, n .onto, refl, λ _. c .if1 .taken)
 
 shared-slice-read-write-clock : tie.Need-shared-slice-read-write-clock Inv-loop μ-loop
 shared-slice-read-write-clock c = c .before .before .before .before .loop-test .taken
@@ -81,7 +81,20 @@ same-length-2 c =
     long-on _ _ _ _ _ _ _ _ _ _ (c .before .loop .inv) (c .before .before .before .before .before .before .before .pre .0)
 
 returns-2 : tie.Need-returns-2 Inv-loop μ-loop
-returns-2 c = let n = c .before .loop .inv in (n .quietly, ap (λ (v : Visible). v .pc) (n .seen), n .phase, n .onto, refl)
+returns-2 c =
+    let n = c .before .loop .inv in (
+      n .quietly,
+      ap (λ (v : Visible). v .pc) (n .seen),
+      n .phase,
+      n .onto,
+      refl,
+      λ more. absurd (omega (
+        arith,
+        more,
+        c .loop-test
+            .left,
+      )),
+    )
 
 pub write-ahead-spec : {M : Type 1} → statement M
 write-ahead-spec =

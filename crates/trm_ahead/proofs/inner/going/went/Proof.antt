@@ -7,7 +7,7 @@ use Rattle.trm_ahead.proofs.inner.going.went.Statement.{statement}
 use Rattle.trm_ahead.proofs.inner.going.went.Tie as tie
 
 quietly-requires : tie.Need-quietly-requires
-quietly-requires c κs = let k = c .before .before .pre in (k .many, k .few, k .done)
+quietly-requires c κs = let k = c .before .before .pre in (k .many, k .few, k .finished)
 
 slice-write-bytes : tie.Need-slice-write-bytes
 slice-write-bytes c = c .before .before .before .before .before .pre .wide

@@ -2,11 +2,6 @@
 use borrow.Author.Needs.{needs}
 use Rattle.trm_ahead.proofs.inner.serial.after_serial.Statement.{statement}
 use Rattle.trm_ahead.proofs.inner.serial.after_serial.Tie as tie
-use Rattle.trm_ahead.proofs.inner.serial.after_serial.Reads as reads
-use Rattle.trm_ahead.proofs.inner.serial.after_serial.Lts as lts
-use Rattle.trm_ahead.proofs.inner.serial.serial_after.Reads as serial-after-reads
-use Rattle.trm_ahead.proofs.inner.serial.with_serial.Reads as with-serial-reads
-use Rattle.trm_steps.proofs.inner.unit.unpack.Reads as unpack-reads
 
 unpack-requires : tie.Need-unpack-requires
 unpack-requires c κs = search needs

@@ -2,10 +2,6 @@
 use borrow.Author.Needs.{needs}
 use Rattle.trm_ahead.proofs.inner.serial.serial_clock.Statement.{statement}
 use Rattle.trm_ahead.proofs.inner.serial.serial_clock.Tie as tie
-use Rattle.trm_ahead.proofs.inner.serial.serial_clock.Reads as reads
-use Rattle.trm_ahead.proofs.inner.serial.serial_clock.Lts as lts
-use Rattle.trm_steps.proofs.inner.interrupt.is_stalled.Reads as is-stalled-reads
-use Rattle.trm_steps.proofs.inner.unit.step.Reads as step-reads
 
 is-stalled-requires : tie.Need-is-stalled-requires
 is-stalled-requires c κs = search needs

@@ -15,7 +15,8 @@ enters-requires c κs = c .before .before .pre .0 .counts
 
 returns : tie.Need-returns
 returns c = let g = c .before .before .before .pre in
-    goes-worked _ _ _ _ _ _ _ _ (first-second _ _ _ _ _ (facts _ _ _ _ _ (g .0)) (g .1) (kind-jump _ _ _ (g .2) (c .before .if1 .taken)))
+    goes-worked _ _ _ _ _ _ _ _ (first-second _ _ _ _ _ (facts _ _ _ _ _ (g .0)) (g .1) (kind-jump _ _ _ (g .2)
+    (c .before .if1 .taken)))
     _ _ _ _ _ _ (c .enters .ensures) refl
 
 turns-cache-off-requires : tie.Need-turns-cache-off-requires
@@ -76,7 +77,9 @@ returns-3 c =
     (c .before .set-status2 .ensures .1))
 
 enters-requires-2 : tie.Need-enters-requires-2
-enters-requires-2 c κs = c .before .before .before .before .before .before .before .before .before .before .before .before .pre .0 .counts
+enters-requires-2 c κs =
+    let c10 = c .before .before .before .before .before .before .before .before .before .before in
+    c10 .before .before .pre .0 .counts
 
 returns-4 : tie.Need-returns-4
 returns-4 c =

@@ -112,9 +112,11 @@ returns-3 c =
     let c10 = c .before .before .before .before .before .before .before .before .before .before in
     let g = c10 .pre in let p = sym (c .before .before .before .before .before .before .before .place-of-word .ensures) ∙
     c .before .before .before .before .before .place .given .1 in
-    ends-worked _ _ _ _ _ _ _ (first-device-store _ _ _ _ _ (facts _ _ _ _ _ (g .0)) (g .1) (kind-device _ _ _ (store-access _ (g .2)) _ p)
+    ends-worked _ _ _ _ _ _ _ (first-device-store _ _ _ _ _ (facts _ _ _ _ _ (g .0)) (g .1) (kind-device _ _ _ (store-access _
+    (g .2)) _ p)
     (is-store-at _ (g .2)) .0) _
-    (write-made _ _ _ _ _ _ _ (g .2) _ p _ (c .before .before .stored-word .ensures) _ _ _ refl (c .pass .ensures .0) (c .pass .ensures .1))
+    (write-made _ _ _ _ _ _ _ (g .2) _ p _ (c .before .before .stored-word .ensures) _ _ _ refl (c .pass .ensures .0)
+    (c .pass .ensures .1))
 
 returns-4 : tie.Need-returns-4
 returns-4 c =
@@ -125,7 +127,8 @@ returns-4 c =
     let on = sym (c10 .before .before .before .before .before .before .before .cache-on .ensures) ∙ not-false
     (c10 .before .before .before .before .before .before .before .cache-on .result)
     (c10 .before .before .before .before .before .before .if1 .left) in
-    ends-worked _ _ _ _ _ _ _ (first-hit-store _ _ _ _ _ (facts _ _ _ _ _ (g .0)) (g .1) (kind-cached _ _ _ (store-access _ (g .2)) _ p on)
+    ends-worked _ _ _ _ _ _ _ (first-hit-store _ _ _ _ _ (facts _ _ _ _ _ (g .0)) (g .1) (kind-cached _ _ _ (store-access _
+    (g .2)) _ p on)
     (hits-at _ _ _ _ _ p ∙ sym (c10 .before .line-holds .ensures) ∙ not-false (c10 .before .line-holds .result) (c10 .if2 .left))
     (is-store-at _ (g .2)) .0) _
     (store-made _ _ _ _ _ _ _ (g .2) (inside-at _ _ _ (store-access _ (g .2)) _ p) _ _ _ _ _

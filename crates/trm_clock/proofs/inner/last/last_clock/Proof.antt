@@ -74,7 +74,8 @@ returns-4 c = let o = c .before .before .before .match .keys4 in
     (c .carried .ensures) (c .before .branch .ensures .0) (c .before .branch .ensures .1)
 
 returns-5 : tie.Need-returns-5
-returns-5 c = let o = call-left _ (c .before .before .before .before .before .pre .1 .many) (c .before .before .before .match .rest) in
+returns-5 c =
+    let o = call-left _ (c .before .before .before .before .before .pre .1 .many) (c .before .before .before .match .rest) in
     other-made _ _ _ _ _ _ _ (λ z. omega (arith, o, z)) (λ z. omega (arith, o, z)) (λ z. omega (arith, o, z)) _ _ _
     (c .carried2 .ensures) (c .before .call .ensures .0) (c .before .call .ensures .1)
 

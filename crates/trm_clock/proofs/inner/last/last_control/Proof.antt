@@ -16,22 +16,23 @@ returns c = let g = c .before .before .before .before .before .pre in
     control-made _ _ _ _ _ _ _ (g .2) _ _ _ _ (jump-keeps _ _ _ (c .before .before .before .if1 .taken)) (c .carried .ensures)
     (c .before .jump .ensures .0) (c .before .jump .ensures .1)
 
-clear-lines-requires : tie.Need-clear-lines-requires
-clear-lines-requires c κs = search needs
+empty-all-requires : tie.Need-empty-all-requires
+empty-all-requires c κs = search needs
 
 set-status-requires : tie.Need-set-status-requires
-set-status-requires c κs = let g = c .before .before .before .before .before .before .before .before .before .pre in
-    (g .0 .widths, g .0 .counts, g .2, c .before .before .before .before .before .before .before .if1 .left)
+set-status-requires c κs = let g = c .before .before .before .before .before .before .before .before .pre in
+    (g .0 .widths, g .0 .counts, g .2, c .before .before .before .before .before .before .if1 .left)
 
 carried-requires-2 : tie.Need-carried-requires-2
 carried-requires-2 c κs = search needs
 
 returns-2 : tie.Need-returns-2
 returns-2 c =
-    let c10 = c .before .before .before .before .before .before .before .before .before .before in
-    let g = c10 .before .pre in
-    control-made _ _ _ _ _ _ _ (g .2) _ _ _ _ (c .before .before .before .clear-lines .ensures) (c .carried2 .ensures)
-    (c .before .set-status .ensures .0) (c .before .set-status .ensures .1)
+    let g = c .before .before .before .before .before .before .before .before .before .before .pre in
+    control-made _ _ _ _ _ _ _ (g .2) _ _ _ _
+    (rw (g .1 .clears (g .2) (c .before .before .before .before .before .before .before .before .if1 .left))
+    (c .before .before .before .empty-all .ensures))
+    (c .carried2 .ensures) (c .before .set-status .ensures .0) (c .before .set-status .ensures .1)
 
 pub last-control-spec : {M : Type 1} → statement M
 last-control-spec =
@@ -40,7 +41,7 @@ last-control-spec =
     jump-requires
     carried-requires
     returns
-    clear-lines-requires
+    empty-all-requires
     set-status-requires
     carried-requires-2
     returns-2)

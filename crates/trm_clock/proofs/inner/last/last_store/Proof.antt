@@ -1,33 +1,50 @@
 -- The proof of trm_clock::inner::last::last_store.
+use mathlib.Core.Path.{sym}
 use Rattle.trm_execute.proofs.Laws.{execute-store}
-use Rattle.trm_plan.proofs.Laws.Words.{store-made}
+use Rattle.trm_plan.proofs.Laws.Last.{cached-cache, cached-store}
+use Rattle.trm_plan.proofs.Laws.Words.{store-made, memory-at}
 use borrow.Author.Needs.{needs}
 use Rattle.trm_clock.proofs.inner.last.last_store.Statement.{statement}
 use Rattle.trm_clock.proofs.inner.last.last_store.Tie as tie
 
-store-word-requires : tie.Need-store-word-requires
-store-word-requires c κs = let g = c .before .before .before .before .before .before .before .pre in (g .2, g .0 .legal)
+target-of-requires : tie.Need-target-of-requires
+target-of-requires c κs = c .before .before .pre .0 .legal
+
+stored-word-requires : tie.Need-stored-word-requires
+stored-word-requires c κs = search needs
+
+store-to-requires : tie.Need-store-to-requires
+store-to-requires c κs = search needs
 
 pass-requires : tie.Need-pass-requires
 pass-requires c κs =
-    let c10 = c .before .before .before .before .before .before .before .before .before .before in
-    let g = c10 .before .pre in (g .0 .widths, g .0 .counts, execute-store _ _ 0 (g .2))
+    let g = c .before .before .before .before .before .before .before .before .before .before .before .pre in
+    (g .0 .widths, g .0 .counts, execute-store _ _ 0 (g .2))
 
 carried-requires : tie.Need-carried-requires
 carried-requires c κs = search needs
 
-same-length : tie.Need-same-length
-same-length c = search needs
-
 returns : tie.Need-returns
 returns c =
-    let c10 = c .before .before .before .before .before .before .before .before .before .before in
-    let g = c10 .before .before .before .pre in
-    store-made _ _ _ _ _ _ _ (g .2) (g .1 .memory (g .2)) _ _ _ _ _
-    (c .before .before .before .before .before .store-word .ensures .0)
-    (c .before .before .before .before .before .store-word .ensures .1)
+    let g = c .before .before .before .before .before .before .before .before .before .before .before .before .before .pre in
+    let on = g .1 .cached (g .2) in
+    let m = g .1 .memory (g .2) in
+    store-made _ _ _ _ _ _ _ (g .2) m _ _ _ _ _
+    (rw (
+      cached-cache _ _ _ _ (g .2) _ (memory-at _ _ _ m) on,
+      ← c .before .before .before .before .before .before .before .before .before .before .target-of .ensures,
+      ← c .before .before .before .before .before .before .before .before .stored-word .ensures,
+    ) (c .before .before .before .store-to .ensures))
+    (sym (cached-store _ _ _ _ (g .2) on))
     (c .carried .ensures) (c .before .pass .ensures .0) (c .before .pass .ensures .1)
 
 pub last-store-spec : {M : Type 1} → statement M
 last-store-spec =
-    tie.close (tie.spec store-word-requires pass-requires carried-requires same-length returns)
+    tie.close
+    (tie.spec
+    target-of-requires
+    stored-word-requires
+    store-to-requires
+    pass-requires
+    carried-requires
+    returns)

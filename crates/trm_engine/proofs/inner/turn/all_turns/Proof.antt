@@ -9,10 +9,6 @@ use Rattle.trm_cache.specs.Cache.{cache}
 use Rattle.trm_ahead.specs.Reached.{point, Turned}
 use Rattle.trm_engine.proofs.inner.turn.all_turns.Statement.{statement}
 use Rattle.trm_engine.proofs.inner.turn.all_turns.Tie as tie
-use Rattle.trm_engine.proofs.inner.turn.all_turns.Reads as reads
-use Rattle.trm_engine.proofs.inner.turn.all_turns.Lts as lts
-use Rattle.trm_engine.proofs.inner.turn.turn.Reads as turn-reads
-use Rattle.trm_word.proofs.inner.charge.base_charges.Reads as base-charges-reads
 
 abbrev Inv-loop : tie.InvT-loop
 Inv-loop g₀ program regs₀ full₀ dirty₀ block₀ words₀ store₀ lines inputs bytes₀ outs₀ base g regs full dirty block words store bytes

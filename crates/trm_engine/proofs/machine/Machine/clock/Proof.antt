@@ -1,69 +1,111 @@
 -- The proof of trm_engine::machine::Machine::clock.
 use mathlib.Core.Path.{refl}
-use Rattle.trm_ahead.proofs.Laws.Reached.{reached-end}
-use Rattle.trm_engine.proofs.Laws.Begun.{begun}
-use Rattle.trm_engine.proofs.Laws.One.{one-free, one-ran}
-use Rattle.trm_engine.proofs.Laws.Shape.{shaped-by-type}
+use Rattle.trm_ahead.proofs.Laws.Here.{interrupt-here}
+use Rattle.trm_plan.proofs.Laws.Facts.{facts, few-clocks}
+use Rattle.trm_engine.proofs.Laws.Step.{clock-good, good-word, steps-at, step-asks, step-clock}
 use borrow.Author.Needs.{needs}
 use Rattle.trm_engine.proofs.machine.Machine.clock.Statement.{statement}
 use Rattle.trm_engine.proofs.machine.Machine.clock.Tie as tie
-use Rattle.trm_engine.proofs.machine.Machine.clock.Reads as reads
-use Rattle.trm_engine.proofs.machine.Machine.clock.Lts as lts
-use Rattle.trm_engine.proofs.inner.turn.all_turns.Reads as all-turns-reads
 
-slice-aggregate-all-turns : tie.Need-slice-aggregate-all-turns
-slice-aggregate-all-turns c = search needs
+interrupt-now-requires : tie.Need-interrupt-now-requires
+interrupt-now-requires c κs = search needs
 
-slice-aggregate-all-turns-2 : tie.Need-slice-aggregate-all-turns-2
-slice-aggregate-all-turns-2 c = search needs
+acknowledge-requires : tie.Need-acknowledge-requires
+acknowledge-requires c κs = let g = clock-good _ _ _ _ _ _ (c .before .before .before .before .before .pre) in
+    (g .widths, g .counts, c .before .interrupt-now .ensures .idle (c .if1 .taken))
 
-slice-aggregate-all-turns-3 : tie.Need-slice-aggregate-all-turns-3
-slice-aggregate-all-turns-3 c = search needs
-
-slice-aggregate-all-turns-4 : tie.Need-slice-aggregate-all-turns-4
-slice-aggregate-all-turns-4 c = search needs
-
-all-turns-requires : tie.Need-all-turns-requires
-all-turns-requires c κs =
-    let c10 = c .before .before .before .before .before .before .before .before .before .before in
-    record {
-      from = _;
-      so = begun _ _ _ _ _ _ _ _ (one-free _ _ _ _ _ 0 0 (c10 .before .before .before .before .before .before
-          .before .before .pre)) (shaped-by-type _ _ (c10 .before .before .before .before .before .before .before .before .good .0)) refl
-          refl;
-    }
-
-array-read-t42 : tie.Need-array-read-t42
-array-read-t42 c = search needs
-
-array-read-t45 : tie.Need-array-read-t45
-array-read-t45 c = search needs
-
-same-length : tie.Need-same-length
-same-length c =
-    let c10 = c .before .before .before .before .before .before .before .before .before .before in
-    let c20 = c10 .before .before .before .before .before .before .before .before .before .before in
-    c .before .before .before .before .before .all-turns .ensures .0 _ (begun _ _ _ _ _ _ _ _ (one-free _ _ _ _ _ 0 0 (c20 .before
-    .before .before .before .pre)) (shaped-by-type _ _ (c20 .before .before .before .before .good .0)) refl refl) .long
+quiet-requires : tie.Need-quiet-requires
+quiet-requires c κs = search needs
 
 returns : tie.Need-returns
-returns c =
-    let c10 = c .before .before .before .before .before .before .before .before .before .before in
-    let c20 = c10 .before .before .before .before .before .before .before .before .before .before in
-    one-ran _ _ _ _ _ _ _ _ (reached-end _ _ _ _ _ _ _ (c .before .before .before .before .before .all-turns .ensures .0 _ (begun _
-    _ _ _ _ _ _ _ (one-free _ _ _ _ _ 0 0 (c20 .before .before .before .before .pre)) (shaped-by-type _ _ (c20 .before .before
-    .before .before .good .0)) refl refl)) (c .before .before .before .before .before .all-turns .ensures .1))
+returns c = let k = c .before .before .before .interrupt-now .ensures in
+    rw (c .quiet .ensures) (
+      refl,
+      rw (c .before .acknowledge .ensures)
+          (interrupt-here _ _ _ _ _ _ (k .unheld (c .before .before .if1 .taken)) (k .idle (c .before .before .if1 .taken)) _
+          (k .chosen (c .before .before .if1 .taken))
+          (c .before .before .if1 .taken) _ _ refl refl),
+    )
+
+word-at-requires : tie.Need-word-at-requires
+word-at-requires c κs = search needs
+
+unit-now-requires : tie.Need-unit-now-requires
+unit-now-requires c κs =
+    few-clocks _ _ _ _ _ (facts _ _ _ _ _ (clock-good _ _ _ _ _ _ (c .before .before .before .before .before .before .pre)))
+
+multiplier-step-requires : tie.Need-multiplier-step-requires
+multiplier-step-requires c κs =
+    let s = c .before .before .before .before .before .before .before .before .pre in
+    let g = good-word _ _ _ _ _ _ s _ (c .before .before .word-at .ensures) in
+    let u = c .before .unit-now .ensures .0 (c .if2 .taken) in
+    (step-asks _ _ _ _ _ (steps-at _ 8 (u .operation) refl) g (u .more), u .operation, g .counts)
+
+quiet-requires-2 : tie.Need-quiet-requires-2
+quiet-requires-2 c κs = search needs
+
+returns-2 : tie.Need-returns-2
+returns-2 c =
+    let s = c .before .before .before .before .before .before .before .before .before .before .pre in
+    let g = good-word _ _ _ _ _ _ s _ (c .before .before .before .before .word-at .ensures) in
+    let u = c .before .before .before .unit-now .ensures .0 (c .before .before .if2 .taken) in
+    rw (c .quiet2 .ensures) (
+      refl,
+      rw (c .before .multiplier-step .ensures)
+          (step-clock _ _ _ _ _ _ _ (c .before .before .before .before .word-at .ensures) g (steps-at _ 8 (u .operation) refl) (u .more)
+          (u .unheld) (c .before .before .before .before .before .before .interrupt-now .ensures .none
+          (c .before .before .before .before .before .if1 .left) (u .unheld))),
+    )
+
+divider-step-requires : tie.Need-divider-step-requires
+divider-step-requires c κs =
+    let s = c .before .before .before .before .before .before .before .before .before .pre in
+    let g = good-word _ _ _ _ _ _ s _ (c .before .before .before .word-at .ensures) in
+    let u = c .before .before .unit-now .ensures .1 (c .if3 .taken) in
+    (step-asks _ _ _ _ _ (steps-at _ 9 (u .operation) refl) g (u .more), u .operation, g .counts)
+
+quiet-requires-3 : tie.Need-quiet-requires-3
+quiet-requires-3 c κs = search needs
+
+returns-3 : tie.Need-returns-3
+returns-3 c =
+    let s = c .before .before .before .before .before .before .before .before .before .before .before .pre in
+    let g = good-word _ _ _ _ _ _ s _ (c .before .before .before .before .before .word-at .ensures) in
+    let u = c .before .before .before .before .unit-now .ensures .1 (c .before .before .if3 .taken) in
+    rw (c .quiet3 .ensures) (
+      refl,
+      rw (c .before .divider-step .ensures)
+          (step-clock _ _ _ _ _ _ _ (c .before .before .before .before .before .word-at .ensures) g (steps-at _ 9
+          (u .operation) refl) (u .more)
+          (u .unheld) (c .before .before .before .before .before .before .before .interrupt-now .ensures .none
+          (c .before .before .before .before .before .before .if1 .left) (u .unheld))),
+    )
+
+other-clock-requires : tie.Need-other-clock-requires
+other-clock-requires c κs = search needs
+
+same-length : tie.Need-same-length
+same-length c = search needs
+
+returns-4 : tie.Need-returns-4
+returns-4 c = c .before .before .other-clock .ensures
 
 pub clock-spec : {M : Type 1} → statement M
 clock-spec =
     tie.close
     (tie.spec
-    slice-aggregate-all-turns
-    slice-aggregate-all-turns-2
-    slice-aggregate-all-turns-3
-    slice-aggregate-all-turns-4
-    all-turns-requires
-    array-read-t42
-    array-read-t45
+    interrupt-now-requires
+    acknowledge-requires
+    quiet-requires
+    returns
+    word-at-requires
+    unit-now-requires
+    multiplier-step-requires
+    quiet-requires-2
+    returns-2
+    divider-step-requires
+    quiet-requires-3
+    returns-3
+    other-clock-requires
     same-length
-    returns)
+    returns-4)

@@ -1,4 +1,6 @@
 -- The proof of trm_engine::machine::Machine::multiplier_step.
+use native.Mathlib.Omega.{arith}
+use Rattle.trm_steps.proofs.Laws.Steps.{multiplies, multiplied-is}
 use borrow.Author.Needs.{needs}
 use Rattle.trm_engine.proofs.machine.Machine.multiplier_step.Statement.{statement}
 use Rattle.trm_engine.proofs.machine.Machine.multiplier_step.Tie as tie
@@ -10,13 +12,21 @@ operand-b-requires : tie.Need-operand-b-requires
 operand-b-requires c κs = search needs
 
 multiplier-step-requires : tie.Need-multiplier-step-requires
-multiplier-step-requires c κs = rw (c .before .before .before .operand-a .ensures, c .before .operand-b .ensures)
-    (c .before .before .before .before .before .before .before .pre)
+multiplier-step-requires c κs = let s = c .before .before .before .before .before .before in
+    rw (c .before .before .operand-a .ensures, c .operand-b .ensures) (multiplies _ _ _ (s .pre .0) (s .pre .1))
+
+advance-requires : tie.Need-advance-requires
+advance-requires c κs = (c .before .before .before .before .before .before .before .pre .2, omega arith, omega arith)
 
 returns : tie.Need-returns
-returns c =
-    rw (c .multiplier-step .ensures, c .before .before .before .before .operand-a .ensures, c .before .before .operand-b .ensures)
+returns c = let s = c .before .before .before .before .before .before .before .before in rw (
+  c .advance .ensures,
+  c .before .multiplier-step .ensures,
+  c .before .before .before .before .operand-a .ensures,
+  c .before .before .operand-b .ensures,
+  multiplied-is _ _ _ (s .pre .1),
+)
 
 pub multiplier-step-spec : {M : Type 1} → statement M
 multiplier-step-spec =
-    tie.close (tie.spec operand-a-requires operand-b-requires multiplier-step-requires returns)
+    tie.close (tie.spec operand-a-requires operand-b-requires multiplier-step-requires advance-requires returns)

@@ -7,11 +7,6 @@ use Rattle.trm_engine.proofs.Laws.Shape.{shaped-by-type}
 use borrow.Author.Needs.{needs}
 use Rattle.trm_engine.proofs.machine.Machine.run.Statement.{statement}
 use Rattle.trm_engine.proofs.machine.Machine.run.Tie as tie
-use Rattle.trm_engine.proofs.machine.Machine.run.Reads as reads
-use Rattle.trm_engine.proofs.machine.Machine.run.Lts as lts
-use Rattle.trm_engine.proofs.inner.clear.clear_bytes.Reads as clear-bytes-reads
-use Rattle.trm_engine.proofs.inner.clear.clear_words.Reads as clear-words-reads
-use Rattle.trm_engine.proofs.inner.turn.all_turns.Reads as all-turns-reads
 
 clear-bytes-requires : tie.Need-clear-bytes-requires
 clear-bytes-requires c κs = search needs
@@ -26,7 +21,8 @@ all-turns-requires c κs =
     record {
       from = _;
       so = begun _ _ _ _ _ _ _ _ (c20 .before .before .before .before .before .before .before .before .pre)
-          (shaped-by-type _ _ (c20 .before .before .before .before .before .before .before .before .good .0)) (c10 .before .before .before
+          (shaped-by-type _ _ (c20 .before .before .before .before .before .before .before .before .good .0))
+          (c10 .before .before .before
           .before .clear-bytes .ensures) (c10 .clear-words .ensures);
     }
 

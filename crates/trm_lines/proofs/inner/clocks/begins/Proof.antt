@@ -17,6 +17,7 @@ first-clock-requires c κs =
       good-able _ _ (c10 .args .l) _ _ _ (c10 .args .buf .now) (c10 .pre .0) _ (c .before .before .before .before .before .before
           .word-at .ensures),
       c10 .pre .4,
+      c10 .pre .6,
     )
 
 went-requires : tie.Need-went-requires

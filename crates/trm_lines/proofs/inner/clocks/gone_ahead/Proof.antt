@@ -1,75 +1,74 @@
 -- The proof of trm_lines::inner::clocks::gone_ahead.
-use mathlib.Core.Path.{refl, sym, ap, _∙_}
+use mathlib.Core.Path.{refl, sym, ap, _∙_, subst}
 use native.Mathlib.Omega.{arith}
 use mathlib.Core.List.{[]}
 use lib.ListN.{length, length-replicate}
+use Rattle.trm_plan.specs.Made.{Ends}
 use Rattle.trm_ahead.specs.Reached.{point}
 use Rattle.trm_lines.proofs.Laws.Onward.{onward-none}
-use Rattle.trm_lines.proofs.Laws.Gone.{least-bounds, under-able, gone-below, onward-gone, lines-same}
+use Rattle.trm_lines.proofs.Laws.Gone.{under-able, gone-below, onward-gone, lines-same}
 use borrow.Author.Needs.{needs}
 use Rattle.trm_lines.proofs.inner.clocks.gone_ahead.Statement.{statement}
 use Rattle.trm_lines.proofs.inner.clocks.gone_ahead.Tie as tie
 
 returns : tie.Need-returns
-returns c = (
+returns c = let p5 = c .if1 .taken in (
   λ b f. onward-none _ _ _ _ b (c .before .before .before .before .before .pre .0) f,
   refl,
-  c .before .before .before .before
-      .before .pre .2,
+  c .before .before .before .before .before .pre .2,
   refl,
+  omega arith,
+  omega arith,
+  λ _. record {
+    steps = λ z. absurd (omega (arith, p5, z));
+    writes = λ z. absurd (omega (arith, p5, z));
+    fills = λ z. absurd (omega (arith, p5, z));
+    waits = λ z. absurd (omega (arith, p5, z));
+  },
 )
 
 word-at-requires : tie.Need-word-at-requires
 word-at-requires c κs = search needs
 
-least-requires : tie.Need-least-requires
-least-requires c κs = search needs
-
 array-share-prefix-lines : tie.Need-array-share-prefix-lines
-array-share-prefix-lines c =
-    let l = c .before .before .before .before .before .before .before .before .before .args .l in
-    least-bounds (l .left) 64 _ (c .before .before .least .ensures) .1
+array-share-prefix-lines c = c .before .before .before .before .before .before .before .before .pre .5
 
 slice-aggregate-flight-ahead : tie.Need-slice-aggregate-flight-ahead
 slice-aggregate-flight-ahead c =
-    let l = c .before .before .before .before .before .before .before .before .before .before .args .l in
-    let m = least-bounds (l .left) 64 _ (c .before .before .before .least .ensures) in
-    sym (ap length (lines-same _ (c .before .before .before .before .before .before .before .before .before .before .args .line)
-    (m .1)) ∙ length-replicate _ _)
+    sym (ap length (lines-same _ (c .before .before .before .before .before .before .before .before .before .args .line)
+    (c .before .before .before .before .before .before .before .before .before .pre .5)) ∙ length-replicate _ _)
 
 flight-ahead-requires : tie.Need-flight-ahead-requires
 flight-ahead-requires c κs =
-    let pre = c .before .before .before .before .before .before .before .before .before .before .pre in
-    let m = least-bounds _ _ _ (c .before .before .before .least .ensures) in (
-      under-able _ _ (c .before .before .before .before .before .before .before .before .before .before .args .l) _ _ _ []
-          (pre .0) _ (m .0) (m .1) _ (lines-same _ _ (m .1)) _ (c .before .before .before .before .word-at .ensures),
+    let pre = c .before .before .before .before .before .before .before .before .before .pre in (
+      under-able _ _ (c .before .before .before .before .before .before .before .before .before .args .l) _ _ _ [] (pre .0) _
+          (pre .4) (pre .5) _ (lines-same _ _ (pre .5)) _ (c .before .before .before .word-at .ensures),
       pre .3,
+      pre .2,
+      c .before .before .before .before .if1 .left,
     )
 
 sub-t25 : tie.Need-sub-t25
 sub-t25 c =
     let pre = c .before .before .before .before .before .before .before .before .before .before .before .before .before .before
-    .before .before .pre in
-    let m = least-bounds _ _ _ (c .before .before .before .before .before .before .before .before .before .least .ensures) in
+    .before .pre in
     let q = c .before .before .before .before .before .flight-ahead .ensures in
     let below = gone-below _ _ (c .before .before .before .before .before .before .before .before .before .before .before .before
-    .before .before .before .before .args .l) _ _ _ [] (pre .0) _ (m .0) (m .1) _ (lines-same _ _ (m .1)) (pre .1) (pre .2) _
-    (c .before .before .before .before .before .before .before .before .before .before .word-at .ensures) (point
+    .before .before .before .args .l) _ _ _ [] (pre .0) _ (pre .4) (pre .5) _ (lines-same _ _ (pre .5)) (pre .1) (pre .2) _
+    (c .before .before .before .before .before .before .before .before .before .word-at .ensures) (point
     (c .before .before .before .before .before .flight-ahead .result) _ _ _) (q .0) (q .3) in
-    omega (arith, below, m .0)
+    omega (arith, below, pre .4)
 
 add-t27 : tie.Need-add-t27
 add-t27 c =
     let pre = c .before .before .before .before .before .before .before .before .before .before .before .before .before .before
-    .before .before .before .pre in
-    let m = least-bounds _ _ _ (c .before .before .before .before .before .before .before .before .before .before .least .ensures) in
+    .before .before .pre in
     let q = c .before .before .before .before .before .before .flight-ahead .ensures in
     let below = gone-below _ _ (c .before .before .before .before .before .before .before .before .before .before .before .before
-    .before .before .before .before .before .args .l) _ _ _ [] (pre .0) _ (m .0) (m .1) _ (lines-same _ _ (m .1)) (pre .1)
-    (pre .2) _
-    (c .before .before .before .before .before .before .before .before .before .before .before .word-at .ensures) (point
+    .before .before .before .before .args .l) _ _ _ [] (pre .0) _ (pre .4) (pre .5) _ (lines-same _ _ (pre .5)) (pre .1) (pre .2) _
+    (c .before .before .before .before .before .before .before .before .before .before .word-at .ensures) (point
     (c .before .before .before .before .before .before .flight-ahead .result) _ _ _) (q .0) (q .3) in
-    omega (arith, below, m .1, pre .0 .few, pre .0 .room)
+    omega (arith, below, pre .5, pre .0 .few, pre .0 .room)
 
 same-length : tie.Need-same-length
 same-length c = search needs
@@ -77,17 +76,31 @@ same-length c = search needs
 returns-2 : tie.Need-returns-2
 returns-2 c =
     let pre = c .before .before .before .before .before .before .before .before .before .before .before .before .before .before
-    .before .before .before .pre in
-    let m = least-bounds _ _ _ (c .before .before .before .before .before .before .before .before .before .before .least .ensures) in
-    let q = c .before .before .before .before .before .before .flight-ahead .ensures in (
+    .before .before .pre in
+    let q = c .before .before .before .before .before .before .flight-ahead .ensures in
+    let same = lines-same _ (c .before .before .before .before .before .before .before .before .before .before .before .before
+    .before .before .before .before .args .line) (pre .5) in
+    let below = gone-below _ _ (c .before .before .before .before .before .before .before .before .before .before .before .before
+    .before .before .before .before .args .l) _ _ _ [] (pre .0) _ (pre .4) (pre .5) _ same (pre .1) (pre .2) _
+    (c .before .before .before .before .before .before .before .before .before .before .word-at .ensures) (point
+    (c .before .before .before .before .before .before .flight-ahead .result) _ _ _) (q .0) (q .3) in (
       λ b f. onward-gone _ _ (c .before .before .before .before .before .before .before .before .before .before .before .before
-          .before .before .before .before .before .args .l) _ _ _ b (pre .0) _ (m .0) (m .1) _ (lines-same _ _ (m .1)) (pre .1)
-          (pre .2) _
-          (c .before .before .before .before .before .before .before .before .before .before .before .word-at .ensures) (point
+          .before .before .before .before .args .l) _ _ _ b (pre .0) _ (pre .4) (pre .5) _ same (pre .1) (pre .2) _
+          (c .before .before .before .before .before .before .before .before .before .before .word-at .ensures) (point
           (c .before .before .before .before .before .before .flight-ahead .result) _ _ _) (q .0) (q .3) f,
       q .1,
       λ z. pre .2 (sym (q .2) ∙ z),
       refl,
+      omega arith,
+      omega (arith, below, pre .4),
+      λ more.
+          let long = ap length same ∙ length-replicate (c .before .before .before .before .before .before .before .before .before
+          .before .before .before .before .before .before .before .args .m)
+          (c .before .before .before .before .before .before .before .before .before .before .before .before .before .before
+          .before .before .args .line) in
+          subst (λ w. Ends w (c .before .before .before .before .before .before .flight-ahead .result .scalars .running))
+          (c .before .before .before .before .before .before .before .before .before .before .word-at .ensures)
+          (q .4 (omega (arith, below, pre .4, more, long))),
     )
 
 pub gone-ahead-spec : {M : Type 1} → statement M
@@ -96,7 +109,6 @@ gone-ahead-spec =
     (tie.spec
     returns
     word-at-requires
-    least-requires
     array-share-prefix-lines
     slice-aggregate-flight-ahead
     flight-ahead-requires

@@ -13,7 +13,7 @@ unfolding operandA
 returns c = rw (ne-eqb _ _ (c .if1 .taken), and-false (eqb (operation (c .before .args .w)) 0))
 
 moves-high-requires : tie.Need-moves-high-requires
-moves-high-requires c κs = search needs
+moves-high-requires c κs = c .if1 .left
 
 returns-2 : tie.Need-returns-2
 unfolding operandA

@@ -2,13 +2,11 @@
 use Rattle.trm_ahead.proofs.Laws.Here.{ready-here}
 use Rattle.trm_ahead.proofs.Laws.Next.{answered, room, entered}
 use Rattle.trm_ahead.proofs.Laws.Next.{opens}
-use Rattle.trm_plan.proofs.Laws.Words.{call-left}
+use Rattle.trm_plan.proofs.Laws.Words.{arithmetic-left}
 use Rattle.trm_plan.proofs.Laws.Kinds.{kind-call}
 use Rattle.trm_plan.proofs.Laws.Plans.{first-second}
 use native.Mathlib.Omega.{arith}
 use Rattle.trm_plan.proofs.Laws.Facts.{facts}
-use Rattle.trm_ahead.proofs.Laws.Here.{ready-here}
-use Rattle.trm_ahead.proofs.Laws.Next.{answered, room, entered}
 use borrow.Author.Needs.{needs}
 use Rattle.trm_ready.proofs.inner.ready.begin.Statement.{statement}
 use Rattle.trm_ready.proofs.inner.ready.begin.Tie as tie
@@ -91,37 +89,36 @@ branch-requires c κs =
 mul-first-arithmetic : tie.Need-mul-first-arithmetic
 mul-first-arithmetic c =
     let c10 = c .before .before .before .before .before .before .before .before .before .before in
-    let pr = c10 .before .before .before .before .pre in
+    let pr = c10 .before .before .before .pre in
     let b = pr .2 in
     omega (arith, b .more, pr .0 .so .feed .many)
 
 shared-slice-read-first-arithmetic : tie.Need-shared-slice-read-first-arithmetic
 shared-slice-read-first-arithmetic c =
     let c10 = c .before .before .before .before .before .before .before .before .before .before in
-    let pr = c10 .before .before .before .before .before .pre in
+    let pr = c10 .before .before .before .before .pre in
     let b = pr .2 in
     omega (arith, b .more, pr .0 .so .feed .fed)
 
 first-arithmetic-requires : tie.Need-first-arithmetic-requires
 first-arithmetic-requires c κs =
     let c10 = c .before .before .before .before .before .before .before .before .before .before in
-    let pr = c10 .before .before .before .before .before .pre in
+    let pr = c10 .before .before .before .before .pre in
     let b = pr .2 in
     let q = opens _ _ _ _ _ _ _ _ _ _ (pr .0) (pr .1) b in
-    (q .good, b .idle, pr .3, c .before .before .before .before .before .before .before .if1 .taken)
+    (q .good, b .idle, pr .3, arithmetic-left _ (c .before .before .before .before .before .before .before .match .rest))
 
 went-requires-3 : tie.Need-went-requires-3
 went-requires-3 c κs =
     let c10 = c .before .before .before .before .before .before .before .before .before .before in
-    let c20 = c10 .before .before .before .before .before .before .before .before .before .before in
-    let pr = c20 .pre in
+    let pr = c10 .before .before .before .before .before .before .before .before .before .pre in
     let b = pr .2 in
     room _ _ _ _ _ _ _ _ _ _ (pr .0 .so) (b .more) _ _ _ _ (ready-here _ _ _ _ _ _ _ (pr .1) (b .unheld) (b .idle) (b .none) _ (c
     .before .before .before .before .first-arithmetic .ensures))
 
 enters-requires : tie.Need-enters-requires
 enters-requires c κs =
-    let pr = c .before .before .before .before .before .before .before .before .pre in
+    let pr = c .before .before .before .before .before .before .before .pre in
     let b = pr .2 in
     let q = opens _ _ _ _ _ _ _ _ _ _ (pr .0) (pr .1) b in
     (q .few .0, q .good .counts)
@@ -200,27 +197,28 @@ same-length-12 c = search needs
 same-length-13 : tie.Need-same-length-13
 same-length-13 c = search needs
 
-returns-5 : tie.Need-returns-5
-returns-5 c =
+returns-6 : tie.Need-returns-6
+returns-6 c =
     let c10 = c .before .before .before .before .before .before .before .before .before .before in
     let c20 = c10 .before .before .before .before .before .before .before .before .before .before in
-    let pr = c20 .before .before .before .before .before .pre in
+    let pr = c20 .before .before .before .before .pre in
     let b = pr .2 in (
       λ x₀ k. answered _ _ _ x₀ _ _ _ _ _ _ k (b .more) _ _ _ _ (ready-here _ _ _ _ _ _ _ (pr .1) (b .unheld) (b .idle) (b .none) _
-          (c .before .before .before .before .before .before .before .before .before .first-arithmetic .ensures)) _ _ _ (c .before .before
+          (c .before .before .before .before .before .before .before .before .before .first-arithmetic .ensures)) _ _ _
+          (c .before .before
           .before .before .went3 .ensures .0) (c .before .before .before .before .went3 .ensures .1) (c .before .before .before .before
           .went3 .ensures .2),
       rw (c .before .before .before .before .went3 .ensures .0) (omega arith),
     )
 
-returns-6 : tie.Need-returns-6
-returns-6 c =
-    let pr = c .before .before .before .before .before .before .before .before .before .pre in
+returns-5 : tie.Need-returns-5
+returns-5 c =
+    let pr = c .before .before .before .before .before .before .before .before .pre in
     let b = pr .2 in
     let q = opens _ _ _ _ _ _ _ _ _ _ (pr .0) (pr .1) b in
     let e = c .enters .ensures in (
-      λ x₀ k. entered _ _ _ _ _ _ b _ e (first-second _ _ _ _ _ (q .facts) (b .idle) (kind-call _ _ _ (call-left _ (c .before .if1
-          .left) (c .before .before .match .rest)))) _ _ _ _ x₀ (pr .1) k,
+      λ x₀ k. entered _ _ _ _ _ _ b _ e (first-second _ _ _ _ _ (q .facts) (b .idle) (kind-call _ _ _
+          (c .before .match .keys5))) _ _ _ _ x₀ (pr .1) k,
       rw e (omega arith),
     )
 
@@ -238,11 +236,11 @@ begin-spec =
     first-store-requires
     went-requires-2
     branch-requires
+    enters-requires
     mul-first-arithmetic
     shared-slice-read-first-arithmetic
     first-arithmetic-requires
     went-requires-3
-    enters-requires
     same-length
     same-length-2
     same-length-3
@@ -257,8 +255,8 @@ begin-spec =
     returns-3
     same-length-10
     returns-4
+    returns-5
     same-length-11
     same-length-12
     same-length-13
-    returns-5
     returns-6)

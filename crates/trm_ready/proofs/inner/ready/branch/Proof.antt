@@ -47,7 +47,8 @@ returns c =
     let gd = good-under _ _ _ _ _ _ u in
     let f = facts _ _ _ _ _ gd in (
       λ p is bs ws x₀ at r. quiet-answered p _ is x₀ _ _ _ _ bs ws r (b .more) _ 1 _ _ _ (ready-here p _ _ _ _ _ _ at (b .unheld) (b
-          .idle) (b .none) _ (ends-worked _ _ _ _ _ _ _ (first-quick _ _ _ _ _ f (b .idle) (kind-not-taken _ _ _ o (sym (c .before .before
+          .idle) (b .none) _ (ends-worked _ _ _ _ _ _ _ (first-quick _ _ _ _ _ f (b .idle) (kind-not-taken _ _ _ o (sym
+          (c .before .before
           .before .branch-taken .ensures) ∙ not-true (c .before .before .before .branch-taken .result) (c .before .before .if1 .taken)))
           .0) _ (other-made _ _ _ _ _ _ _ (λ z. omega (arith, o, z)) (λ z. omega (arith, o, z)) (λ z. omega (arith, o, z)) (shows (c
           .before .pass .result) 0 0) _ _ refl (c .before .pass .ensures .0) (c .before .pass .ensures .1)))) _ (c .quietly .ensures),

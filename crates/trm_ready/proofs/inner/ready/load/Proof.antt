@@ -353,10 +353,12 @@ returns-5 c =
       λ x₀ k. let r = entered _ _ _ _ _ _ b _ e d _ _ _ _ x₀ (pr .1) k in answered _ _ _ x₀ _ _ _ _ _ _ r (y .0) (shows (c .before
           .load .result) _ _) _ _ _ (last-here _ _ _ x₀ _ _ _ _ _ _ r (y .0) _ (word-next _ _ _ _ _ (c10 .before .before .before .before
           .before .before .before .before .before .args .store .now) b _ e d _ (pr .1)) (y .1) (phase _ _ _ _ _ (c10 .before .before
-          .before .before .before .before .before .before .before .args .store .now) b _ e d) _ (read-made _ _ _ _ _ _ _ (pr .3) _ (ap (λ
+          .before .before .before .before .before .before .before .args .store .now) b _ e d) _ (read-made _ _ _ _ _ _ _ (pr .3) _
+          (ap (λ
           v. placeOfWord (c10 .before .before .before .before .before .before .before .before .before .args .w) v (length (c10 .before
           .before .before .before .before .before .before .before .before .args .store .now))) (seen _ _ _ _ _ (c10 .before .before
-          .before .before .before .before .before .before .before .args .store .now) b _ e d) ∙ p) (shows (c .before .load .result) _ _) _
+          .before .before .before .before .before .before .before .args .store .now) b _ e d) ∙ p) (shows
+          (c .before .load .result) _ _) _
           _ refl (c .before .load .ensures .0) (c .before .load .ensures .1))) _ _ _ (c .quietly .ensures) refl refl,
       rw (
         c .quietly
@@ -388,7 +390,8 @@ returns-6 c =
     (not-false (c10 .due2 .result) (c .before .before .before .before .before .before .before .before .before .if4 .left)) in (
       λ x₀ k. ended _ _ _ _ _ _ b _ e d (y .0) (y .1) _ _ (λ i. load-made _ _ _ _ _ _ i (pr .3) _ _ (ap (λ v. placeOfWord (c30
           .before .before .before .args .w) v (length (c30 .before .before .before .args .store .now))) (seen _ _ _ _ _ (c30 .before
-          .before .before .args .store .now) b _ e d) ∙ p) (c .before .before .before .peek .ensures) (shows (c .before .load2 .result) 0
+          .before .before .args .store .now) b _ e d) ∙ p) (c .before .before .before .peek .ensures) (shows
+          (c .before .load2 .result) 0
           0) _ _ refl (c .before .load2 .ensures .0) (c .before .load2 .ensures .1)) _ (c .quietly3 .ensures) _ _ _ _ x₀ (pr .1) k,
       rw (
         c

@@ -1,6 +1,7 @@
 -- The proof of trm_rule::inner::record::device_due.
 use borrow.Author.Tests.{not-true, not-false}
 use borrow.Author.Needs.{needs}
+use Rattle.trm_reference.specs.Access.{isAccess}
 use Rattle.trm_rule.proofs.inner.record.device_due.Statement.{statement}
 use Rattle.trm_rule.proofs.inner.record.device_due.Tie as tie
 
@@ -11,7 +12,11 @@ returns : tie.Need-returns
 returns c = rw (← c .before .is-load .ensures, not-true (c .before .is-load .result) (c .if1 .taken))
 
 to-device-requires : tie.Need-to-device-requires
-to-device-requires c κs = search needs
+unfolding isAccess
+to-device-requires c κs =
+    let start = c .before .before in
+    let is-load = c .before .is-load in
+    (start .pre, rw (← is-load .ensures, not-false (is-load .result) (c .if1 .left)))
 
 returns-2 : tie.Need-returns-2
 returns-2 c =

@@ -21,7 +21,7 @@ steps-ahead-requires c κs =
     let wd = c10 .before .before .pre .1 in
     let ph = c10 .before .before .pre .2 in
     let u = under-at _ _ _ _ _ _ _ a wd in
-    (u, ph)
+    (u, ph, c10 .before .before .pre .5)
 
 due-requires : tie.Need-due-requires
 due-requires c κs = search needs
@@ -41,8 +41,8 @@ returns c =
           .result) (m .3) mo fr (c .before .due .ensures) (not-true (c .before .due .result) (c .if1 .taken)),
     )
 
-mul-next-step : tie.Need-mul-next-step
-mul-next-step c =
+mul-end-steps : tie.Need-mul-end-steps
+mul-end-steps c =
     let c10 = c .before .before .before .before .before .before .before .before .before .before in
     let c20 = c10 .before .before .before .before .before .before .before .before .before .before in
     let a = c20 .before .pre .0 in
@@ -53,8 +53,8 @@ mul-next-step c =
     .before .before .due .result) (c .before .before .before .before .before .before .if1 .left)) in
     omega (arith, y .0, a .so .feed .many)
 
-shared-slice-read-next-step : tie.Need-shared-slice-read-next-step
-shared-slice-read-next-step c =
+shared-slice-read-end-steps : tie.Need-shared-slice-read-end-steps
+shared-slice-read-end-steps c =
     let c10 = c .before .before .before .before .before .before .before .before .before .before in
     let c20 = c10 .before .before .before .before .before .before .before .before .before .before in
     let a = c20 .before .before .pre .0 in
@@ -66,8 +66,8 @@ shared-slice-read-next-step c =
     .before .if1 .left)) in
     omega (arith, y .0, a .so .feed .fed)
 
-next-step-requires : tie.Need-next-step-requires
-next-step-requires c κs =
+end-steps-requires : tie.Need-end-steps-requires
+end-steps-requires c κs =
     let c10 = c .before .before .before .before .before .before .before .before .before .before in
     let c20 = c10 .before .before .before .before .before .before .before .before .before .before in
     let a = c20 .before .before .pre .0 in
@@ -76,7 +76,13 @@ next-step-requires c κs =
     let wh = wd ∙ ap (λ i. wordAt (c20 .before .before .args .program .now) i) (sym (m .1)) in
     let r = m .0 _ _ _ _ _ wd (a .so) in
     let gd = good-here _ _ _ _ _ _ _ _ _ _ r _ wh in
-    (gd, m .2, c20 .before .before .pre .5)
+    let y = due-true (c .before .before .before .before .before .before .before .before .before .steps-ahead .result .at) (length
+    (c20 .before .before .args .lines .now)) (stalled (getD (c20 .before .before .args .lines .now) (c .before .before .before
+    .before .before .before .before .before .before .steps-ahead .result .at) 0)) (c .before .before .before .before .before .before
+    .before .before .due .result) (c .before .before .before .before .before .before .before .before .due .ensures) (not-false (c
+    .before .before .before .before .before .before .before .before .due .result) (c .before .before .before .before .before .before
+    .before .if1 .left)) in
+    (gd, m .2, m .5 (y .0))
 
 went-requires : tie.Need-went-requires
 went-requires c κs =
@@ -94,7 +100,7 @@ went-requires c κs =
     in
     let r = m .0 _ _ _ _ _ wd (a .so) in
     room _ _ _ _ _ _ _ _ _ _ r (y .0) _ _ _ _ (flight-here _ _ _ _ _ _ _ wh (y .1) (λ z. omega (arith, m .2, z)) _ (c .before
-    .before .before .before .next-step .ensures))
+    .before .before .before .end-steps .ensures))
 
 same-length-2 : tie.Need-same-length-2
 same-length-2 c = search needs
@@ -120,7 +126,7 @@ returns-2 c =
     (not-false (c10 .before .before .before .before .before .before .before .before .due .result) (c10 .before .before .before
     .before .before .before .before .if1 .left)) in (
       λ x₀ k. let r = m .0 _ _ _ _ x₀ wd k in answered _ _ _ x₀ _ _ _ _ _ _ r (y .0) _ _ _ _ (flight-here _ _ _ _ _ _ _ wh (y .1) (λ
-          z. omega (arith, m .2, z)) _ (c .before .before .before .before .before .before .before .before .before .next-step .ensures)) _
+          z. omega (arith, m .2, z)) _ (c .before .before .before .before .before .before .before .before .before .end-steps .ensures)) _
           _ _ (c .before .before .before .before .went .ensures .0) (c .before .before .before .before .went .ensures .1) (c .before
           .before .before .before .went .ensures .2),
       rw (c .before .before .before .before .went .ensures .0) (omega (arith, m .3)),
@@ -134,9 +140,9 @@ step-turn-spec =
     due-requires
     same-length
     returns
-    mul-next-step
-    shared-slice-read-next-step
-    next-step-requires
+    mul-end-steps
+    shared-slice-read-end-steps
+    end-steps-requires
     went-requires
     same-length-2
     same-length-3

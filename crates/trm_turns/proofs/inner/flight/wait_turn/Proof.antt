@@ -41,8 +41,8 @@ returns c =
           .result) (m .3) mo fr (c .before .due .ensures) (not-true (c .before .due .result) (c .if1 .taken)),
     )
 
-mul-next-wait : tie.Need-mul-next-wait
-mul-next-wait c =
+mul-end-wait : tie.Need-mul-end-wait
+mul-end-wait c =
     let c10 = c .before .before .before .before .before .before .before .before .before .before in
     let c20 = c10 .before .before .before .before .before .before .before .before .before .before in
     let a = c20 .before .pre .0 in
@@ -53,8 +53,8 @@ mul-next-wait c =
     .before .due .result) (c .before .before .before .before .before .before .if1 .left)) in
     omega (arith, y .0, a .so .feed .many)
 
-shared-slice-read-next-wait : tie.Need-shared-slice-read-next-wait
-shared-slice-read-next-wait c =
+shared-slice-read-end-wait : tie.Need-shared-slice-read-end-wait
+shared-slice-read-end-wait c =
     let c10 = c .before .before .before .before .before .before .before .before .before .before in
     let c20 = c10 .before .before .before .before .before .before .before .before .before .before in
     let a = c20 .before .before .pre .0 in
@@ -66,8 +66,8 @@ shared-slice-read-next-wait c =
     .before .if1 .left)) in
     omega (arith, y .0, a .so .feed .fed)
 
-next-wait-requires : tie.Need-next-wait-requires
-next-wait-requires c κs =
+end-wait-requires : tie.Need-end-wait-requires
+end-wait-requires c κs =
     let c10 = c .before .before .before .before .before .before .before .before .before .before in
     let c20 = c10 .before .before .before .before .before .before .before .before .before .before in
     let a = c20 .before .before .pre .0 in
@@ -76,7 +76,13 @@ next-wait-requires c κs =
     let wh = wd ∙ ap (λ i. wordAt (c20 .before .before .args .program .now) i) (sym (m .1)) in
     let r = m .0 _ _ _ _ _ wd (a .so) in
     let gd = good-here _ _ _ _ _ _ _ _ _ _ r _ wh in
-    (gd, m .2, c20 .before .before .pre .5)
+    let y = due-true (c .before .before .before .before .before .before .before .before .before .wait-ahead .result .at) (length
+    (c20 .before .before .args .lines .now)) (stalled (getD (c20 .before .before .args .lines .now) (c .before .before .before
+    .before .before .before .before .before .before .wait-ahead .result .at) 0)) (c .before .before .before .before .before .before
+    .before .before .due .result) (c .before .before .before .before .before .before .before .before .due .ensures) (not-false (c
+    .before .before .before .before .before .before .before .before .due .result) (c .before .before .before .before .before .before
+    .before .if1 .left)) in
+    (gd, m .2, m .5 (y .0))
 
 went-requires : tie.Need-went-requires
 went-requires c κs =
@@ -94,7 +100,7 @@ went-requires c κs =
     in
     let r = m .0 _ _ _ _ _ wd (a .so) in
     room _ _ _ _ _ _ _ _ _ _ r (y .0) _ _ _ _ (flight-here _ _ _ _ _ _ _ wh (y .1) (λ z. omega (arith, m .2, z)) _ (c .before
-    .before .before .before .next-wait .ensures))
+    .before .before .before .end-wait .ensures))
 
 same-length-2 : tie.Need-same-length-2
 same-length-2 c = search needs
@@ -120,7 +126,7 @@ returns-2 c =
     (not-false (c10 .before .before .before .before .before .before .before .before .due .result) (c10 .before .before .before
     .before .before .before .before .if1 .left)) in (
       λ x₀ k. let r = m .0 _ _ _ _ x₀ wd k in answered _ _ _ x₀ _ _ _ _ _ _ r (y .0) _ _ _ _ (flight-here _ _ _ _ _ _ _ wh (y .1) (λ
-          z. omega (arith, m .2, z)) _ (c .before .before .before .before .before .before .before .before .before .next-wait .ensures)) _
+          z. omega (arith, m .2, z)) _ (c .before .before .before .before .before .before .before .before .before .end-wait .ensures)) _
           _ _ (c .before .before .before .before .went .ensures .0) (c .before .before .before .before .went .ensures .1) (c .before
           .before .before .before .went .ensures .2),
       rw (c .before .before .before .before .went .ensures .0) (omega (arith, m .3)),
@@ -134,9 +140,9 @@ wait-turn-spec =
     due-requires
     same-length
     returns
-    mul-next-wait
-    shared-slice-read-next-wait
-    next-wait-requires
+    mul-end-wait
+    shared-slice-read-end-wait
+    end-wait-requires
     went-requires
     same-length-2
     same-length-3

@@ -41,8 +41,8 @@ returns c =
           .before .due .result) (m .3) mo fr (c .before .due .ensures) (not-true (c .before .due .result) (c .if1 .taken)),
     )
 
-mul-next-write : tie.Need-mul-next-write
-mul-next-write c =
+mul-end-write : tie.Need-mul-end-write
+mul-end-write c =
     let c10 = c .before .before .before .before .before .before .before .before .before .before in
     let c20 = c10 .before .before .before .before .before .before .before .before .before .before in
     let a = c20 .before .before .before .pre .0 in
@@ -52,8 +52,8 @@ mul-next-write c =
     .before .before .before .before .before .due .result) (c .before .before .before .before .before .before .if1 .left)) in
     omega (arith, y .0, a .so .feed .many)
 
-shared-slice-read-next-write : tie.Need-shared-slice-read-next-write
-shared-slice-read-next-write c =
+shared-slice-read-end-write : tie.Need-shared-slice-read-end-write
+shared-slice-read-end-write c =
     let c10 = c .before .before .before .before .before .before .before .before .before .before in
     let c20 = c10 .before .before .before .before .before .before .before .before .before .before in
     let a = c20 .before .before .before .before .pre .0 in
@@ -64,8 +64,8 @@ shared-slice-read-next-write c =
     .before .before .before .before .before .before .if1 .left)) in
     omega (arith, y .0, a .so .feed .fed)
 
-next-write-requires : tie.Need-next-write-requires
-next-write-requires c κs =
+end-write-requires : tie.Need-end-write-requires
+end-write-requires c κs =
     let c10 = c .before .before .before .before .before .before .before .before .before .before in
     let c20 = c10 .before .before .before .before .before .before .before .before .before .before in
     let a = c20 .before .before .before .before .pre .0 in
@@ -74,7 +74,12 @@ next-write-requires c κs =
     let wh = wd ∙ ap (λ i. wordAt (c20 .before .before .before .before .args .program .now) i) (sym (m .1)) in
     let r = m .0 _ _ _ _ _ wd (a .so) in
     let gd = good-here _ _ _ _ _ _ _ _ _ _ r _ wh in
-    (gd, m .2)
+    let y = due-true (c10 .before .write-ahead .result .at) (length (c20 .before .before .before .before .args .lines .now))
+    (stalled (getD (c20 .before .before .before .before .args .lines .now) (c10 .before .write-ahead .result .at) 0)) (c .before
+    .before .before .before .before .before .before .before .due .result) (c .before .before .before .before .before .before .before
+    .before .due .ensures) (not-false (c .before .before .before .before .before .before .before .before .due .result) (c .before
+    .before .before .before .before .before .before .if1 .left)) in
+    (gd, m .2, m .5 (y .0))
 
 went-requires : tie.Need-went-requires
 went-requires c κs =
@@ -92,7 +97,7 @@ went-requires c κs =
     .before .before .due .result) (c10 .before .before .if1 .left)) in
     let r = m .0 _ _ _ _ _ wd (a .so) in
     room _ _ _ _ _ _ _ _ _ _ r (y .0) _ _ _ _ (flight-here _ _ _ _ _ _ _ wh (y .1) (λ z. omega (arith, m .2, z)) _ (c .before
-    .before .before .before .next-write .ensures))
+    .before .before .before .end-write .ensures))
 
 same-length-2 : tie.Need-same-length-2
 same-length-2 c =
@@ -110,7 +115,7 @@ same-length-2 c =
     (c10 .before .before .before .before .before .before .before .if1 .left)) in
     long-turned _ _ _ _ _ _ _ _ _ a (λ x₀ k. let r = m .0 _ _ _ _ x₀ wd k in answered _ _ _ x₀ _ _ _ _ _ _ r (y .0) _ _ _ _
     (flight-here _ _ _ _ _ _ _ wh (y .1) (λ z. omega (arith, m .2, z)) _ (c .before .before .before .before .before .before .before
-    .before .before .next-write .ensures)) _ _ _ (c .before .before .before .before .went .ensures .0) (c .before .before .before
+    .before .before .end-write .ensures)) _ _ _ (c .before .before .before .before .went .ensures .0) (c .before .before .before
     .before .went .ensures .1) (c .before .before .before .before .went .ensures .2)) .store
 
 same-length-3 : tie.Need-same-length-3
@@ -133,7 +138,7 @@ returns-2 c =
     .before .before .due .ensures) (not-false (c10 .before .before .before .before .before .before .before .before .due .result)
     (c10 .before .before .before .before .before .before .before .if1 .left)) in (
       λ x₀ k. let r = m .0 _ _ _ _ x₀ wd k in answered _ _ _ x₀ _ _ _ _ _ _ r (y .0) _ _ _ _ (flight-here _ _ _ _ _ _ _ wh (y .1) (λ
-          z. omega (arith, m .2, z)) _ (c .before .before .before .before .before .before .before .before .before .next-write .ensures)) _
+          z. omega (arith, m .2, z)) _ (c .before .before .before .before .before .before .before .before .before .end-write .ensures)) _
           _ _ (c .before .before .before .before .went .ensures .0) (c .before .before .before .before .went .ensures .1) (c .before
           .before .before .before .went .ensures .2),
       rw (c .before .before .before .before .went .ensures .0) (omega (arith, m .3)),
@@ -147,9 +152,9 @@ write-turn-spec =
     due-requires
     same-length
     returns
-    mul-next-write
-    shared-slice-read-next-write
-    next-write-requires
+    mul-end-write
+    shared-slice-read-end-write
+    end-write-requires
     went-requires
     same-length-2
     same-length-3

@@ -74,7 +74,8 @@ enters-requires-3 c κs =
 returns-3 : tie.Need-returns-3
 returns-3 c = let g = c .before .before .before .before .before .before .pre in let p = sym
     (c .before .before .before .place-of-word .ensures) ∙ c .before .enum-told .given .1 in
-    goes-worked _ _ _ _ _ _ _ _ (first-device-load _ _ _ _ _ (facts _ _ _ _ _ (g .0)) (g .1) (kind-device _ _ _ (load-access _ (g .2)) _ p)
+    goes-worked _ _ _ _ _ _ _ _ (first-device-load _ _ _ _ _ (facts _ _ _ _ _ (g .0)) (g .1) (kind-device _ _ _ (load-access _
+    (g .2)) _ p)
     (not-store _ (g .2))) _ _ _ _ _ _ (c .enters .ensures) refl
 
 returns-4 : tie.Need-returns-4
@@ -85,7 +86,8 @@ returns-4 c =
     let on = sym (c .before .before .before .before .before .before .before .before .cache-on .ensures) ∙ not-false
     (c .before .before .before .before .before .before .before .before .cache-on .result)
     (c .before .before .before .before .before .before .before .if1 .left) in
-    goes-worked _ _ _ _ _ _ _ _ (first-hit-load _ _ _ _ _ (facts _ _ _ _ _ (g .0)) (g .1) (kind-cached _ _ _ (load-access _ (g .2)) _ p on)
+    goes-worked _ _ _ _ _ _ _ _ (first-hit-load _ _ _ _ _ (facts _ _ _ _ _ (g .0)) (g .1) (kind-cached _ _ _ (load-access _
+    (g .2)) _ p on)
     (hits-at _ _ _ _ _ p ∙ sym (c .before .before .line-holds .ensures) ∙ not-false (c .before .before .line-holds .result)
     (c .before .if2 .left)) (not-store _ (g .2)))
     _ _ _ _ _ _ (c .enters3 .ensures) refl
