@@ -3,19 +3,21 @@
  * Paper: the record and the calls of "Clock by clock"; the numbers of "Where calls are turned down"; images.
  * Link: cc program.c -I include target/staticlib/libtrm.a (made by `rt staticlib trm`), x86-64 Linux.
  *
- * Every call ends, and gives for any numbers whatever a result or a refusal: 0 for none, or one of TRM_REFUSED_.. below, the first
- * that applies in the order that each function gives. A refused call changes nothing: no store, no buffer, no lent record; the rest of
- * its answer is 0, except that a record passed by value comes back as it was given and that an image's fault has its place. Any bytes
- * are a record: they are judged (5), never undefined.
+ * Every call returns, whatever the values of its arguments, and either does its work or refuses it. `number` in its answer is
+ * TRM_ACCEPTED (0) or one of TRM_REFUSED_.. below. Arguments are checked first, in the order in which the call's comment lists the
+ * refusals, and the first check that fails gives the number. A refused call changes nothing: no store, no buffer, no lent record. The
+ * rest of its answer is 0, with two exceptions: a record passed by value is returned unchanged, and trm_image_check gives the offset of
+ * the fault. A trm_machine may hold any bytes: if they are not a legal record the call is refused with 5; behaviour is never undefined.
  *
  * What a caller must guarantee, for every function here:
  *  - a pointer with a length L points to L elements of its type, aligned, that may be read (and written, where it is not const) until the
- *    call returns; with L = 0 it is not looked at and may be NULL; no length is above PTRDIFF_MAX bytes;
- *  - the pointer to a lent record is not NULL: it points to one trm_machine, aligned, of any bytes;
+ *    call returns; with L = 0 it is not used and may be NULL; no length is above PTRDIFF_MAX bytes;
+ *  - the pointer to a lent record is not NULL: it points to one trm_machine, aligned, with any content;
  *  - what may be written (store, bytes, words, buffer, a lent record) overlaps nothing else that is passed to the same call, and no
- *    other thread touches what is passed while the call lasts. What is only read may overlap.
+ *    other thread accesses what is passed during the call. What is only read may overlap.
  * Nothing is kept between calls: no global state, no allocation, no file. A call needs some kilobytes of stack. The program may change
- * between two calls: an instruction in flight is then judged by the new word (5). Structs have padding: compare them field by field.
+ * between two calls: if the record then does not fit the new word at PC, the next call is refused with 5. Structs have padding: compare
+ * them field by field.
  */
 #ifndef TRM_H
 #define TRM_H
@@ -27,46 +29,48 @@
 extern "C" {
 #endif
 
-/* The version of the record and of this interface; trm_record_version() gives that of the library that was linked. */
+/* The version of the record and of this interface in this header; trm_record_version() returns that of the linked library. */
 #define TRM_RECORD_VERSION 2u
 
-/* The refusals; the number is the row of the paper's table. */
+/* The refusal numbers: the rows of the paper's table of refusals. */
 enum {
     TRM_ACCEPTED = 0,
-    TRM_REFUSED_IMAGE = 1,       /* over 65,536 bytes, a record cut short, a wrong length, a count of 0 or above 65,536 */
-    TRM_REFUSED_KIND = 2,        /* a kind unknown, repeated or out of order, or kind 1 missing */
-    TRM_REFUSED_PROGRAM = 3,     /* no word, over 4,096, or one above 3FFFFH; a lone word to decode included */
-    TRM_REFUSED_STORE = 4,       /* length no power of two in 64 to 32,768, or other than at reset */
-    TRM_REFUSED_RECORD = 5,      /* the record breaks its rule */
-    TRM_REFUSED_LINES = 6,       /* other length than the input words, over 65,536, or a byte above 7 */
-    TRM_REFUSED_BUFFERS = 7,     /* other length than the run, or than the store for a copy */
-    TRM_REFUSED_CLOCKS = 8,      /* the clock count would pass 4,294,967,295 */
-    TRM_REFUSED_ADDRESS = 9,     /* a look above FFBFH, a device above 63 */
-    TRM_REFUSED_INSTRUCTION = 10 /* a field outside its width */
+    TRM_REFUSED_IMAGE = 1,       /* image: over 65,536 bytes, a record cut short or of a wrong length, a run of 0 or over 65,536 clocks */
+    TRM_REFUSED_KIND = 2,        /* image: a record kind that is unknown, repeated or out of order, or kind 1 missing */
+    TRM_REFUSED_PROGRAM = 3,     /* program: no word, over 4,096 words, or a word above 3FFFFH; also a word to decode above 3FFFFH */
+    TRM_REFUSED_STORE = 4,       /* store: its length is not a power of two from 64 to 32,768, or not the length at reset */
+    TRM_REFUSED_RECORD = 5,      /* record: a field out of range, or fields that contradict each other or the word at PC */
+    TRM_REFUSED_LINE_BYTES = 6,       /* line bytes: not as many as input words, over 65,536, or one above 7 */
+    TRM_REFUSED_BUFFERS = 7,     /* buffers: not as long as the run, or for a copy not as long as the store */
+    TRM_REFUSED_CLOCKS = 8,      /* the clock count would exceed 4,294,967,295 */
+    TRM_REFUSED_ADDRESS = 9,     /* a look at an address above FFBFH, a watch of a device above 63 */
+    TRM_REFUSED_INSTRUCTION = 10 /* an instruction to encode has a field outside its width */
 };
 
-/* A line byte: interrupt 0, interrupt 1, stall. An answer byte: read, write; the device stands above (byte / 4). */
+/* The bits of a line byte, the input of one clock: interrupt lines 0 and 1, stall. The bits of an answer byte, the device access of one
+ * clock: read, write; the device number is byte / 4. */
 enum { TRM_LINE_INTERRUPT_0 = 1, TRM_LINE_INTERRUPT_1 = 2, TRM_LINE_STALL = 4 };
 enum { TRM_ANSWER_READ = 1, TRM_ANSWER_WRITE = 2 };
 
-/* The machine record. All of it may be read; a caller who writes to it makes a record that the next call judges. */
+/* The machine record: the whole state of a machine but its store. A caller may read and write any field; the next call checks the
+ * record and refuses an illegal one with 5, a wrong `size` with 4. */
 typedef struct trm_machine {
-    uint64_t status;      /* bit 0 enables interrupt 0, 1 interrupt 1, 2 is the mode and selects the bank, 3 is cache on */
+    uint64_t status;      /* bit 0: interrupt 0 enabled; 1: interrupt 1 enabled; 2: mode, selects the register bank; 3: cache on */
     uint64_t pc;
     uint64_t n, z, c, v;  /* flags, 0 or 1 */
     uint64_t phase;       /* 0 ready, 1 arithmetic, 2 write-back, 3 refill, 4 uncached wait, 5 last clock due */
-    uint64_t count;       /* clocks of the phase done */
+    uint64_t count;       /* clocks of this phase that are done */
     uint64_t product;     /* the multiplier's register */
     uint64_t remainder;   /* the divider's registers */
     uint64_t quotient;
-    uint32_t h;
+    uint32_t h;           /* H: the upper half of a product, or the remainder of a division */
     uint32_t size;        /* the store's length at reset */
-    uint64_t clocks, held, refills, writebacks;
+    uint64_t clocks, held, refills, writebacks; /* counts since reset: all clocks, clocks held by stall, bursts of the cache */
     uint32_t regs[16];    /* bank 0, then bank 1 */
-    uint8_t full[16];     /* for each of the sixteen lines 0 or 1 */
-    uint8_t dirty[16];
-    uint16_t block[16];
-    uint32_t words[128];  /* the lines' words, eight to a line */
+    uint8_t full[16];     /* for each of the sixteen cache lines: 1 if it holds a block, else 0 */
+    uint8_t dirty[16];    /* 1 if the line must be written back to the store, else 0 */
+    uint16_t block[16];   /* the block that the line holds: its addresses / 8; 0 for an empty line */
+    uint32_t words[128];  /* the words of the cache lines, eight per line */
 } trm_machine;
 
 /* Operations 0-10 and conditions 0-15, by number. */
@@ -102,14 +106,14 @@ enum {
     TRM_NEVER = 15
 };
 
-/* An instruction as plain numbers: its form, and a field for each part; a field that the form does not have is 0. */
+/* An instruction as plain numbers: its form, and the fields that each form has; every other field is 0. */
 enum {
     TRM_FORM_REGISTER = 0, /* operation 0-10, d, s: R.d := R.d operation R.s */
     TRM_FORM_LITERAL = 1,  /* operation 0-10, d, value: the literal, 0 to 1,023 */
     TRM_FORM_MOVE_H = 2,   /* d: R.d := H */
     TRM_FORM_STATUS = 3,   /* value: the new status, 0 to 15 */
     TRM_FORM_JUMP = 4,     /* s */
-    TRM_FORM_LINK = 5,     /* d, s: a jump that puts PC+1 in R.d */
+    TRM_FORM_LINK = 5,     /* d, s: a jump that stores PC+1 in R.d */
     TRM_FORM_RTI = 6,      /* s */
     TRM_FORM_LOAD = 7,     /* d, s, value: the offset, 0 to 255 */
     TRM_FORM_STORE = 8,    /* d, s, value: the offset, 0 to 255 */
@@ -121,7 +125,7 @@ typedef struct trm_instruction {
     uint32_t form, operation, condition, d, s, value;
 } trm_instruction;
 
-/* Answers. `number` is the refusal, TRM_ACCEPTED for none. */
+/* What the calls return. `number` is the refusal number, or TRM_ACCEPTED. */
 typedef struct trm_reset_answer {
     trm_machine machine;
     uint32_t number;
@@ -130,9 +134,9 @@ typedef struct trm_reset_answer {
 typedef struct trm_clock_value_answer {
     trm_machine machine;
     uint32_t number;
-    uint8_t byte;      /* the access to a device: TRM_ANSWER_.. and the device times 4; 0 without one */
-    uint32_t word;     /* the word moved; 0 without an access */
-    uint64_t finished; /* 1 if the clock finished an instruction */
+    uint8_t byte;      /* the device access: TRM_ANSWER_.. plus the device number times 4; 0 if there was none */
+    uint32_t word;     /* the word read or written; 0 if there was no device access */
+    uint64_t finished; /* 1 if the clock finished an instruction, else 0 */
 } trm_clock_value_answer;
 
 typedef struct trm_clock_answer {
@@ -145,8 +149,8 @@ typedef struct trm_clock_answer {
 typedef struct trm_run_answer {
     trm_machine machine;
     uint32_t number;
-    uint64_t used;     /* clocks: the number of line bytes */
-    uint64_t finished; /* instructions */
+    uint64_t used;     /* clocks run: the number of line bytes */
+    uint64_t finished; /* instructions finished */
 } trm_run_answer;
 
 typedef struct trm_look_answer {
@@ -156,8 +160,8 @@ typedef struct trm_look_answer {
 
 typedef struct trm_watch_answer {
     uint32_t number;
-    uint32_t found; /* 1 if a clock is named, or 0; `clock` is then 0 */
-    uint64_t clock; /* from 0 */
+    uint32_t found; /* 1 if there is such a clock; else 0, and `clock` is 0 */
+    uint64_t clock; /* its index in the answer bytes, from 0 */
 } trm_watch_answer;
 
 typedef struct trm_decode_answer {
@@ -172,65 +176,99 @@ typedef struct trm_encode_answer {
 
 typedef struct trm_image_answer {
     uint32_t number;
-    uint64_t at; /* the byte where the record at fault begins; 0 for an image too long or empty, and for none */
+    uint64_t at; /* the offset where the record at fault begins; 0 if the image is accepted, too long or empty */
 } trm_image_answer;
 
 typedef struct trm_part_answer {
     uint32_t number;
-    uint64_t start; /* the byte of the image where the part begins */
+    uint64_t start; /* the offset in the image where the payload begins */
     uint64_t length;
 } trm_part_answer;
 
-/* The bytes of a record, and its version: a program that compares them with sizeof(trm_machine) and TRM_RECORD_VERSION knows that its
- * header is the library's. Not refused. */
+/* Return the size of a trm_machine in bytes and its version in the linked library. Compare them with sizeof(trm_machine) and
+ * TRM_RECORD_VERSION to see that header and library match. Never refused. */
 size_t trm_record_size(void);
 uint32_t trm_record_version(void);
 
-/* A record to begin with, for a store of this length: all zero, the cache empty. The store keeps its contents.
- * Refused: 4. The record is then one that every call refuses, whatever its store. */
+/* Returns the record of a machine after a reset, for a store of this length: every field 0 except `size`, all cache lines empty. The
+ * store is not changed; its words are the first content of data memory.
+ * Refused with
+ *   4 if store_words is not a power of two from 64 to 32,768. The record returned is then refused by every call, with any store. */
 trm_reset_answer trm_reset(const uint32_t *store, size_t store_words);
 
-/* One clock, the record lent: it is left as the clock leaves it. Refused, in this order: 3, 4, 5, 6 (a line byte above 7), 8; record and
- * store are then as they were, and byte, word and finished are 0. */
+/* Runs one clock. The record is lent: it and the store are changed in place. `line` is the line byte of this clock; `input` is the word
+ * that a load from a device reads in it. The answer has the device access and whether an instruction finished.
+ * Refused, in this order, with
+ *   3 if the program has no word, over 4,096 words, or a word above 3FFFFH;
+ *   4 if the length of the store is not a power of two from 64 to 32,768, or not the one at reset;
+ *   5 if the record is not legal for this program and store;
+ *   6 if the line byte is above 7;
+ *   8 if the clock count is 4,294,967,295 already.
+ * Record and store are then unchanged, and byte, word and finished are 0. */
 trm_clock_answer trm_clock(trm_machine *machine, const uint32_t *program, size_t program_words, uint32_t *store, size_t store_words,
-                           uint8_t line, uint32_t input);
+                           uint8_t line_byte, uint32_t input);
 
-/* The same clock with the record by value: it is returned as trm_clock leaves it; refused, as it was given. */
+/* Runs one clock like trm_clock, but takes the record by value and returns it as trm_clock would leave it.
+ * Refused as trm_clock is; the record is then returned unchanged. */
 trm_clock_value_answer trm_clock_value(trm_machine machine, const uint32_t *program, size_t program_words, uint32_t *store,
-                                       size_t store_words, uint8_t line, uint32_t input);
+                                       size_t store_words, uint8_t line_byte, uint32_t input);
 
-/* One clock for each line byte, with the input word of the same place; for each the answer byte and the word moved are written.
- * Refused: 3, 4, 5, 6, 7, 8; the record comes back as it was given, store, bytes and words are as they were. */
+/* Runs one clock for each line byte: clock i takes lines[i] and inputs[i] and writes its device access to bytes[i] and words[i] (0 if
+ * there is none). Returns the record, the number of clocks, and how many instructions finished.
+ * Refused, in this order, with
+ *   3, 4, 5 as trm_clock;
+ *   6 if lines_length and inputs_length differ, or are over 65,536, or a line byte is above 7;
+ *   7 if bytes_length or words_length is not lines_length;
+ *   8 if the clock count would exceed 4,294,967,295.
+ * The record is then returned unchanged, and store, bytes and words are unchanged. */
 trm_run_answer trm_run(trm_machine machine, const uint32_t *program, size_t program_words, uint32_t *store, size_t store_words,
-                       const uint8_t *lines, size_t lines_length, const uint32_t *inputs, size_t inputs_length, uint8_t *bytes,
+                       const uint8_t *line_bytes, size_t line_bytes_length, const uint32_t *inputs, size_t inputs_length, uint8_t *bytes,
                        size_t bytes_length, uint32_t *words, size_t words_length);
 
-/* One word of data memory, the address taken mod the store's length, a full line's word standing before the store's; changes nothing.
- * Refused: 3, 4, 5, 9 (above FFBFH). */
+/* Returns one word of data memory as the program sees it: from the cache line that holds it, else from the store. The address is reduced
+ * modulo the store's length. Nothing changes.
+ * Refused, in this order, with
+ *   3, 4, 5 as trm_clock;
+ *   9 if the address is above FFBFH: device addresses cannot be looked at. */
 trm_look_answer trm_look(trm_machine machine, const uint32_t *program, size_t program_words, const uint32_t *store, size_t store_words,
                          uint32_t address);
 
-/* All of data memory, into a buffer as long as the store; gives the number. Refused: 3, 4, 5, 7; the buffer is then as it was. */
+/* Copies all of data memory, as the program sees it, into `buffer`, and returns the refusal number. Record and store do not change.
+ * Refused, in this order, with
+ *   3, 4, 5 as trm_clock;
+ *   7 if buffer_words is not store_words.
+ * The buffer is then unchanged. */
 uint32_t trm_copy(trm_machine machine, const uint32_t *program, size_t program_words, const uint32_t *store, size_t store_words,
                   uint32_t *buffer, size_t buffer_words);
 
-/* A clock, from 0, whose answer byte shows the device written, or none if there is no such clock; of several it may be any.
- * Refused: 9 (a device above 63). */
+/* Finds a clock of a run that wrote to a device: an index into the answer bytes of trm_run at which the byte shows a write to it. If
+ * several clocks did, any of them may be returned.
+ * Refused with
+ *   9 if the device number is above 63. */
 trm_watch_answer trm_watch(const uint8_t *bytes, size_t bytes_length, uint32_t device);
 
-/* The instruction that a word stands for. Refused: 3 (above 3FFFFH). */
+/* Decodes a program word to an instruction. Refused with
+ *   3 if the word is above 3FFFFH. */
 trm_decode_answer trm_decode(uint32_t word);
 
-/* The word of an instruction, its unused bits zero. Refused: 10 (a form or operation above 10, a field outside its width, or one that
- * the form does not have and that is not 0). */
+/* Encodes an instruction to a program word, with its unused bits 0. Refused with
+ *   10 if the form or the operation is above 10, a field is outside its width, or a field that the form does not have is not 0. */
 trm_encode_answer trm_encode(trm_instruction instruction);
 
-/* Whether an image can be run with a store of so many words: its first fault, record after record. Refused: 1, 2, 3, 6; and 4, for a
- * length that no store has, at 0, once the first record has passed rows 1, 2 and 3. */
+/* Checks whether an image can be run with a store of store_words words. Records are checked one after another; the first fault gives
+ * the number, and `at` the offset of its record. Refused with
+ *   1 if the image is over 65,536 bytes, or a record is cut short or has a length wrong for its kind, or a run has 0 or over 65,536 clocks;
+ *   2 if the image is empty, or the kind of a record is unknown, repeated or out of order;
+ *   3 if a program word is above 3FFFFH;
+ *   4 if store_words is not a power of two from 64 to 32,768: checked for the first record, after 1, 2 and 3, with `at` 0;
+ *   6 if the line byte of a run is above 7. */
 trm_image_answer trm_image_check(const uint8_t *image, size_t image_bytes, size_t store_words);
 
-/* The payload of the record that begins at byte `at`, as a part of the image: where it begins and how many bytes it has. Refused: 1 (over
- * 65,536 bytes, or that record is cut short), 2 (no record of the image begins there). */
+/* Finds the payload of the record that begins at offset `at`: where it begins in the image, and its length in bytes. Refused, in this
+ * order, with
+ *   1 if the image is over 65,536 bytes;
+ *   2 if no record of the image begins at `at`;
+ *   1 if that record is cut short. */
 trm_part_answer trm_image_payload(const uint8_t *image, size_t image_bytes, size_t at);
 
 #ifdef __cplusplus

@@ -1,18 +1,18 @@
-# What the tools share: the repository's root, its crates, and texts with their comments taken out.
+# What the tools share: the repository's root, its crates, and texts without their comments.
 # Called: imported by the scripts of tools/; it does nothing when run.
-# Reads: crates/ and, for the names that a file declares, its text.
+# Reads: crates.txt, crates/ and, for the names that a file declares, its text.
 import re
 from pathlib import Path
 
 ROOT = Path(__file__).resolve().parent.parent
 CRATES = ROOT / 'crates'
 
-# The marks that may stand in front of a declaration of antt.
+# The marks that may precede a declaration of antt.
 MARKS = r'(?:(?:abbrev|unfoldable|pub)\s+)*'
 
 
 def rel(path):
-    """The path as a reader writes it, from the repository's root."""
+    """The path relative to the repository's root."""
     return str(Path(path).relative_to(ROOT))
 
 
@@ -21,8 +21,15 @@ def text_of(path):
 
 
 def crate_names():
-    """The folders under crates/, in the order of their names."""
+    """The folders under crates/, sorted by name."""
     return sorted(p.name for p in CRATES.iterdir() if p.is_dir()) if CRATES.is_dir() else []
+
+
+def listing(text=None):
+    """Each crate of crates.txt, or of such a text, with the crates that its line lists, in the file's order."""
+    bare = re.sub(r'#.*', '', text_of(ROOT / 'crates.txt') if text is None else text)
+    lines = [line.partition(':') for line in bare.split('\n') if ':' in line]
+    return {name.strip(): needs.split() for name, _, needs in lines}
 
 
 def files(pattern):
@@ -36,17 +43,17 @@ def hidden(path):
 
 
 def blank(piece):
-    """As many spaces and line ends as the piece has: places stay what they were."""
+    """The text with every character but line breaks replaced by a space, so that positions do not change."""
     return re.sub(r'[^\n]', ' ', piece)
 
 
-# What may begin a comment, and what hides such a beginning: a quoted text.
+# What begins a comment, and quoted texts, in which it does not.
 ANTT = re.compile(r'"(?:\\.|[^"\\])*"|\{-|(?:(?<=[\s(){}.;,@])|^)--[^\n]*', re.M)
 RATTLE = re.compile(r'b?"(?:\\.|[^"\\])*"|/\*.*?\*/|//[^\n]*', re.S)
 
 
 def block_end(text, at):
-    """The place after the comment {- .. -} that begins at a place; such comments nest."""
+    """The position after the comment {- .. -} that begins at a position; such comments nest."""
     depth = 0
     for mark in re.finditer(r'\{-|-\}', text[at:]):
         depth += 1 if mark[0] == '{-' else -1
@@ -76,7 +83,7 @@ def bare_of(path):
 
 
 def declares(bare, name):
-    """Whether an antt text, its comments taken out, declares a name: by `name :`, or as a record or data type."""
+    """Whether an antt text without comments declares a name: by `name :`, or as a record or data type."""
     word = re.escape(name)
     typed = rf'^[ \t]*{MARKS}{word}(?:\s*\{{[^}}\n]*\}})*\s+:(?=\s)'
     named = rf'^[ \t]*{MARKS}(?:record|data)\s+{word}(?=[\s({{:]|$)'
@@ -84,7 +91,7 @@ def declares(bare, name):
 
 
 def record_body(bare, name):
-    """The indented lines under `record NAME .. where`, or none where the text has no such record."""
+    """The indented lines under `record NAME .. where`, or None if the text has no such record."""
     head = re.search(rf'^([ \t]*){MARKS}record\s+{re.escape(name)}(?=[\s({{:])[^\n]*\n', bare, re.M)
     if not head:
         return None
@@ -97,7 +104,7 @@ def record_body(bare, name):
 
 
 def record_fields(bare, name):
-    """The fields of a record, or none where the text has no such record."""
+    """The fields of a record, or None if the text has no such record."""
     body = record_body(bare, name)
     if body is None:
         return None

@@ -1,22 +1,22 @@
-// The loads: endless programs of one kind of work each, and the line byte that every clock brings.
+// The loads: endless programs with one kind of work each, and the line byte of every clock.
 // Paper: the rows of the clock table.
-// Each ends in a branch back; what stands before the loop runs once.
+// Each ends in a branch back; what is before the loop runs once.
 use crate::words::{branch, literal, load, register, status, store};
 
 pub struct Load {
     pub name: &'static str,
     pub program: Vec<u32>,
-    pub line: u8,
+    pub line_byte: u8,
 }
 
 pub fn loads() -> Vec<Load> {
-    let of = |name, program, line| Load { name, program, line };
+    let of = |name, program, line_byte| Load { name, program, line_byte };
     vec![
         of("arithmetic", arithmetic(), 0),
         of("MUL and DIV", serial(), 0),
         of("memory hits", hits(), 0),
         of("misses, dirty", misses(), 0),
-        of("past the cache", uncached(), 0),
+        of("uncached", uncached(), 0),
         of("device polling", polling(), 0),
         of("held", arithmetic(), 4),
     ]
@@ -27,7 +27,7 @@ pub fn lengths() -> Vec<Load> {
     let of = |name, words| {
         let mut program = arithmetic();
         program.resize(words, 0);
-        Load { name, program, line: 0 }
+        Load { name, program, line_byte: 0 }
     };
     vec![of("256 words", 256), of("1,024 words", 1024), of("4,096 words", 4096)]
 }
@@ -53,7 +53,7 @@ fn serial() -> Vec<u32> {
     vec![literal(0, 0, 1000), literal(0, 1, 7), register(8, 0, 1), register(9, 0, 1), register(2, 1, 0), branch(14, -4)]
 }
 
-/// Two lines, loads and stores that find their block.
+/// Two cache lines, with loads and stores that hit.
 fn hits() -> Vec<u32> {
     vec![
         status(8),
@@ -70,7 +70,7 @@ fn hits() -> Vec<u32> {
     ]
 }
 
-/// Two blocks of one line, each stored to before the other comes.
+/// Two blocks of one cache line, each stored to before the other is accessed.
 fn misses() -> Vec<u32> {
     vec![status(8), literal(0, 1, 0), store(0, 1, 0), store(0, 1, 128), literal(2, 0, 1), branch(14, -4)]
 }

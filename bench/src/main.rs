@@ -1,6 +1,6 @@
-// The library against the independent simulator, side by side in one process: runs, single clocks, looks, and the early exit.
-// Paper: none of it; what is measured and how is in docs/PERFORMANCE.md.
-// Called: bench [TURNS]. Both sides take turns, and the best of all turns counts; ratios below 1 are the library's.
+// The library against the independent simulator in one process: runs, single clocks, looks, and the early exit.
+// Paper: nothing; what is measured and how is in docs/PERFORMANCE.md.
+// Called: bench [TURNS]. The two sides run in turn, and the best time counts; a ratio below 1 means that the library is faster.
 mod loads;
 mod words;
 
@@ -35,7 +35,7 @@ impl Best {
     }
 }
 
-/// Nanoseconds for each of so many things that `work` does.
+/// Nanoseconds for each of the `count` things that `work` does.
 fn timed(count: usize, work: impl FnOnce()) -> f64 {
     let start = Instant::now();
     work();
@@ -43,14 +43,14 @@ fn timed(count: usize, work: impl FnOnce()) -> f64 {
 }
 
 fn runs(turns: usize, load: &Load) {
-    let (lines, inputs) = (vec![load.line; CLOCKS], vec![1; CLOCKS]);
+    let (line_bytes, inputs) = (vec![load.line_byte; CLOCKS], vec![1; CLOCKS]);
     let mut answers = (vec![0; CLOCKS], vec![0; CLOCKS]);
     let mut others = answers.clone();
     let library = || {
         let mut store = vec![0; WORDS];
         let machine = raw::reset(&store).machine;
         timed(CLOCKS, || {
-            let answer = raw::run(&machine, &load.program, &mut store, &lines, &inputs, &mut answers.0, &mut answers.1);
+            let answer = raw::run(&machine, &load.program, &mut store, &line_bytes, &inputs, &mut answers.0, &mut answers.1);
             assert_eq!(answer.number, 0);
         })
     };
@@ -58,7 +58,7 @@ fn runs(turns: usize, load: &Load) {
         let mut store = vec![0; WORDS];
         let mut record = simulator::reset(&store).unwrap();
         timed(CLOCKS, || {
-            let ran = simulator::run(&mut record, &load.program, &mut store, &lines, &inputs, &mut others.0, &mut others.1);
+            let ran = simulator::run(&mut record, &load.program, &mut store, &line_bytes, &inputs, &mut others.0, &mut others.1);
             black_box(ran.unwrap());
         })
     };
@@ -68,12 +68,12 @@ fn runs(turns: usize, load: &Load) {
 /// One clock call of the library, the record by value or lent.
 type Clock = fn(&mut raw::Machine, &[u32], &mut [u32], u8);
 
-fn by_value(machine: &mut raw::Machine, program: &[u32], store: &mut [u32], line: u8) {
-    *machine = raw::clock_value(machine, program, store, line, 1).machine;
+fn by_value(machine: &mut raw::Machine, program: &[u32], store: &mut [u32], line_byte: u8) {
+    *machine = raw::clock_value(machine, program, store, line_byte, 1).machine;
 }
 
-fn lent(machine: &mut raw::Machine, program: &[u32], store: &mut [u32], line: u8) {
-    black_box(raw::clock(machine, program, store, line, 1));
+fn lent(machine: &mut raw::Machine, program: &[u32], store: &mut [u32], line_byte: u8) {
+    black_box(raw::clock(machine, program, store, line_byte, 1));
 }
 
 fn clocks(turns: usize, load: &Load, name: &str, clock: Clock) {
@@ -82,7 +82,7 @@ fn clocks(turns: usize, load: &Load, name: &str, clock: Clock) {
         let mut machine = raw::reset(&store).machine;
         timed(CALLS, || {
             for _ in 0..CALLS {
-                clock(&mut machine, &load.program, &mut store, load.line);
+                clock(&mut machine, &load.program, &mut store, load.line_byte);
             }
             assert_eq!(machine.clocks as usize, CALLS);
         })
@@ -92,7 +92,7 @@ fn clocks(turns: usize, load: &Load, name: &str, clock: Clock) {
         let mut record = simulator::reset(&store).unwrap();
         timed(CALLS, || {
             for _ in 0..CALLS {
-                black_box(simulator::clock(&mut record, &load.program, &mut store, load.line, 1).unwrap());
+                black_box(simulator::clock(&mut record, &load.program, &mut store, load.line_byte, 1).unwrap());
             }
         })
     };
@@ -120,7 +120,7 @@ fn looks(turns: usize) {
     Best::of(turns, library, simulator).print("look", "call");
 }
 
-/// 4,096 words, the first of them above 3FFFFH, against 4,096 good ones: a run of no clock.
+/// A run of 0 clocks: 4,096 words of which the first is above 3FFFFH, against 4,096 legal ones.
 fn early_exit(turns: usize) {
     let mut store = vec![0; WORDS];
     let machine = raw::reset(&store).machine;

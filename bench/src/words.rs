@@ -1,6 +1,6 @@
-// The words that the loads are written with.
+// The words of the loads.
 // Paper: "What a programmer sees": operation = bits 17-14, d = bits 13-11, s = bits 2-0.
-// Negative branch offsets are taken to ten bits.
+// Negative branch offsets are reduced to ten bits.
 
 pub fn literal(operation: u32, d: u32, value: u32) -> u32 {
     operation << 14 | d << 11 | value

@@ -1,6 +1,6 @@
 // Links the library's static archive, libtrm.a, from target/staticlib at the repository's root.
-// Paper: none of it; this is about the build.
-// TRM_ARCHIVE names another folder with a libtrm.a.
+// Paper: nothing; this is about the build.
+// TRM_ARCHIVE names another folder that has libtrm.a.
 use std::env;
 use std::path::Path;
 

@@ -1,6 +1,6 @@
 /*
  * A board with the machine, a serial receiver, a converter and a memory chip: which oscillator and which memory does it need?
- * Paper: the clock table, the calls and their refusals. README.md beside this file works out every number that is printed.
+ * Paper: the clock table, the calls and their refusals. README.md in this folder works out every number that is printed.
  * Build: cc -std=c99 examples/c/board.c -I include target/staticlib/libtrm.a; C++ compilers take it too.
  */
 #include <inttypes.h>
@@ -21,10 +21,10 @@ typedef struct board {
     uint32_t program[PROGRAM_WORDS];
     uint32_t store[MOST_WORDS];
     uint32_t memory[MOST_WORDS]; /* room for a copy */
-    size_t words;                /* so many of the store are there */
+    size_t words;                /* the words of the store that the chip has */
 } board;
 
-/* Ends the program if a call was refused that should not be. */
+/* Ends the program if a call was refused that should have been accepted. */
 static void must(uint32_t number, const char *what)
 {
     if (number != TRM_ACCEPTED) {
@@ -68,19 +68,19 @@ static uint32_t store(uint32_t d, uint32_t s, uint32_t offset)
     return word_of(TRM_FORM_STORE, 0, 0, d, s, offset);
 }
 
-/* The offset counts from the next word and is kept in ten bits. */
+/* The offset counts from the next word and has ten bits. */
 static uint32_t branch(uint32_t condition, uint32_t at, uint32_t target)
 {
     return word_of(TRM_FORM_BRANCH, 0, condition, 0, 0, (target - at - 1) & 0x3FF);
 }
 
-/* Takes samples x, and keeps and sends 5 x + the x before; the samples are kept so many words behind the results. */
+/* Reads samples x, and stores and sends 5 x + the x before; the samples are stored `behind` words after the results. */
 static void write_program(uint32_t *program, uint32_t behind)
 {
     const uint32_t words[PROGRAM_WORDS] = {
         status(8),                    /* 000 cache on */
         literal(TRM_SUB, 1, 64),      /* 001 R1 := -64, the address of device 0 */
-        literal(TRM_MOV, 3, RESULTS), /* 002 R3: the place of the next result */
+        literal(TRM_MOV, 3, RESULTS), /* 002 R3: the address of the next result */
         literal(TRM_MOV, 5, SAMPLES), /* 003 R5: samples to come */
         load(0, 1, RECEIVER),         /* 004 its word is 0 while it has no sample */
         literal(TRM_AND, 0, 255),     /* 005 */
@@ -89,10 +89,10 @@ static void write_program(uint32_t *program, uint32_t behind)
         literal(TRM_MUL, 2, 5),       /* 008 */
         registers(TRM_ADD, 2, 4),     /* 009 R4: the sample before */
         registers(TRM_MOV, 4, 0),     /* 00A */
-        store(2, 3, 0),               /* 00B the result kept */
-        store(0, 3, behind),          /* 00C the sample kept */
+        store(2, 3, 0),               /* 00B stores the result */
+        store(0, 3, behind),          /* 00C stores the sample */
         literal(TRM_ADD, 3, 1),       /* 00D */
-        store(2, 1, CONVERTER),       /* 00E the result sent */
+        store(2, 1, CONVERTER),       /* 00E sends the result */
         literal(TRM_SUB, 5, 1),       /* 00F */
         branch(TRM_IF_NOT_Z, 16, 4),  /* 010 */
         store(2, 1, LAMP),            /* 011 all done */
@@ -139,7 +139,7 @@ static void print_program(const uint32_t *program)
     }
 }
 
-/* A board with an empty memory chip of so many words, reset. */
+/* A board after reset, with an empty memory chip of `words` words. */
 static void build(board *b, uint32_t behind, size_t words)
 {
     write_program(b->program, behind);
@@ -168,17 +168,17 @@ static void note_result(job *j, uint64_t clock, uint32_t result)
     j->result = result;
 }
 
-/* All samples, until the lamp is lit. Every clock whose number `refresh` divides is held; with 0 none is. */
+/* Processes all samples, until the lamp is lit. Every clock whose number `refresh` divides is held; with 0 none is. */
 static job work(board *b, uint64_t refresh)
 {
     job j = {0, 0, 0, 0, 0};
-    uint32_t sample = 1; /* the receiver has 1, 2, 3 and so on, one after another */
+    uint32_t sample = 1; /* the receiver has the samples 1, 2, 3 and so on */
     trm_clock_answer answer;
     do {
         uint64_t clock = b->machine.clocks + 1;
-        uint8_t line = refresh && clock % refresh == 0 ? TRM_LINE_STALL : 0;
+        uint8_t line_byte = refresh && clock % refresh == 0 ? TRM_LINE_STALL : 0;
         uint32_t input = clock > SILENT ? sample : 0;
-        answer = trm_clock(&b->machine, b->program, PROGRAM_WORDS, b->store, b->words, line, input);
+        answer = trm_clock(&b->machine, b->program, PROGRAM_WORDS, b->store, b->words, line_byte, input);
         must(answer.number, "clock");
         j.instructions += answer.finished;
         if (answer.byte == (RECEIVER * 4 | TRM_ANSWER_READ) && answer.word != 0)
@@ -189,7 +189,7 @@ static job work(board *b, uint64_t refresh)
     return j;
 }
 
-/* The slowest oscillator that does a sample in the time between two. */
+/* The slowest oscillator that processes a sample before the next one comes. */
 static void choose_oscillator(const char *memory, uint64_t refresh)
 {
     enum { OFFERED = 4 };
@@ -209,15 +209,15 @@ static void choose_oscillator(const char *memory, uint64_t refresh)
 
 /* ---- The memory chip: runs of many clocks, and what they leave in memory */
 
-/* One run from a reset, a sample of 7 always waiting; the lamp's clock tells how long the work takes. */
+/* One run from a reset, with a sample of 7 always waiting; the clock that lights the lamp shows how long the work takes. */
 static void try_chip(board *b, uint32_t behind, size_t words)
 {
-    static uint8_t lines[RUN_CLOCKS], bytes[RUN_CLOCKS];
+    static uint8_t line_bytes[RUN_CLOCKS], bytes[RUN_CLOCKS];
     static uint32_t inputs[RUN_CLOCKS], moved[RUN_CLOCKS];
     build(b, behind, words);
     for (int i = 0; i < RUN_CLOCKS; i++)
         inputs[i] = 7;
-    trm_run_answer run = trm_run(b->machine, b->program, PROGRAM_WORDS, b->store, words, lines, RUN_CLOCKS, inputs, RUN_CLOCKS,
+    trm_run_answer run = trm_run(b->machine, b->program, PROGRAM_WORDS, b->store, words, line_bytes, RUN_CLOCKS, inputs, RUN_CLOCKS,
                                  bytes, RUN_CLOCKS, moved, RUN_CLOCKS);
     must(run.number, "run");
     b->machine = run.machine;
@@ -238,7 +238,7 @@ static uint32_t sum_of_results(const uint32_t *memory)
     return sum;
 }
 
-/* What the machine has in memory, and what of it is in the chip: a dirty line's words are not there yet. */
+/* What the machine has in memory, and what of it is in the chip: the words of a dirty cache line are not there yet. */
 static void print_memory(board *b)
 {
     trm_look_answer look = trm_look(b->machine, b->program, PROGRAM_WORDS, b->store, b->words, RESULTS);
@@ -248,7 +248,7 @@ static void print_memory(board *b)
     printf("sum of results: %" PRIu32 " and %" PRIu32 "\n", sum_of_results(b->memory), sum_of_results(b->store));
 }
 
-/* The cache goes off, by a new last word; the power must stay on for so many clocks. */
+/* Turns the cache off by a new last word; the power must stay on for that many clocks. */
 static void power_down(board *b)
 {
     uint64_t from = b->machine.clocks;
@@ -295,15 +295,15 @@ static void print_refusal(const char *what, uint32_t number, const board *now, c
     printf("%s: refused %" PRIu32 ", %s\n", what, number, same ? "nothing changed" : "CHANGED");
 }
 
-/* Calls that are turned down, on a board and a copy of it. */
+/* Calls that are refused, on a board and a copy of it. */
 static void show_refusals(void)
 {
     board b, before;
     memset(&b, 0, sizeof b);
     build(&b, 64, 128);
     memcpy(&before, &b, sizeof b);
-    trm_clock_answer line = trm_clock(&b.machine, b.program, PROGRAM_WORDS, b.store, b.words, 8, 0);
-    print_refusal("a line byte of 8", line.number, &b, &before);
+    trm_clock_answer line_byte = trm_clock(&b.machine, b.program, PROGRAM_WORDS, b.store, b.words, 8, 0);
+    print_refusal("a line byte of 8", line_byte.number, &b, &before);
     trm_clock_answer chip = trm_clock(&b.machine, b.program, PROGRAM_WORDS, b.store, 64, 0, 0);
     print_refusal("another chip than at reset", chip.number, &b, &before);
     trm_look_answer look = trm_look(b.machine, b.program, PROGRAM_WORDS, b.store, b.words, 0xFFC0);

@@ -1,7 +1,7 @@
 /*
- * The lent clock, the clock by value and the run, side by side over the same clocks; look and copy against the record's lines.
+ * The lent clock, the clock by value and the run, side by side over the same clocks; look and copy compared with the record's cache lines.
  * Paper: "a second entry lends the record itself for one clock, with the same outcome"; "a full line's word standing before the store's".
- * Called: by edges.c. That each clock is the right one is held elsewhere, by proof and by tests/rust.
+ * Called: by edges.c. That each clock is right is checked elsewhere, by proof and by tests/rust.
  */
 #include <stdio.h>
 #include <string.h>
@@ -21,7 +21,8 @@ static uint32_t word_of(uint32_t form, uint32_t operation, uint32_t condition, u
     return trm_encode(i).word;
 }
 
-/* Both interrupts, MUL, DIV, loads and stores that share a line, a device, the cache on, and off if the device's word is not negative. */
+/* Both interrupts, MUL, DIV, loads and stores that share a cache line, a device, the cache on, and off if the device's word is not
+ * negative. */
 static void write_program(uint32_t *p)
 {
     p[0] = word_of(TRM_FORM_STATUS, 0, 0, 0, 0, 11);
@@ -48,14 +49,14 @@ static void write_program(uint32_t *p)
     p[21] = word_of(TRM_FORM_JUMP, 0, 0, 0, 5, 0);
 }
 
-/* Data memory by the paper: a full line's word stands before the store's. */
+/* Data memory by the paper: the word of a full cache line, else that of the store. */
 static uint32_t in_memory(const trm_machine *m, const uint32_t *store, uint32_t address)
 {
     uint32_t block = address / 8, line = block % 16;
     return m->full[line] && m->block[line] == block ? m->words[line * 8 + address % 8] : store[address];
 }
 
-/* Look and copy against that, in the middle of a run; store and record stay as they are. */
+/* Compares look and copy with that, in the middle of a run; store and record do not change. */
 static int seen(given *g)
 {
     memcpy(g->copy, g->piece, g->bytes_of_piece);
@@ -69,22 +70,22 @@ static int seen(given *g)
     return good && memcmp(g->copy, g->piece, g->bytes_of_piece) == 0;
 }
 
-static void note(met *m, const trm_machine *before, uint8_t line, uint8_t byte)
+static void note(met *m, const trm_machine *before, uint8_t line_byte, uint8_t byte)
 {
     m->phases |= 1u << before->phase;
     m->modes |= 1u << (before->status >> 2 & 1);
-    m->held += line >> 2;
+    m->held += line_byte >> 2;
     m->reads += byte & 1;
     m->writes += byte >> 1 & 1;
 }
 
-/* One clock both ways: the lent record is left in g, with its store; the other's store is beside it. */
+/* One clock by both entries: g has the lent record and its store after it; `beside` is the store of the other. */
 static int same_clock(given *g, uint32_t *beside, size_t at, met *m, uint64_t *finished)
 {
     trm_machine before = *g->machine;
-    trm_clock_answer a = trm_clock(g->machine, LENT_PROGRAM(g), LENT_STORE(g), g->lines[at], g->inputs[at]);
-    trm_clock_value_answer b = trm_clock_value(before, LENT_PROGRAM(g), beside, BIG, g->lines[at], g->inputs[at]);
-    note(m, &before, g->lines[at], a.byte);
+    trm_clock_answer a = trm_clock(g->machine, LENT_PROGRAM(g), LENT_STORE(g), g->line_bytes[at], g->inputs[at]);
+    trm_clock_value_answer b = trm_clock_value(before, LENT_PROGRAM(g), beside, BIG, g->line_bytes[at], g->inputs[at]);
+    note(m, &before, g->line_bytes[at], a.byte);
     g->bytes[at] = a.byte;
     g->words[at] = a.word;
     *finished += a.finished;
@@ -92,14 +93,14 @@ static int same_clock(given *g, uint32_t *beside, size_t at, met *m, uint64_t *f
            memcmp(g->machine, &b.machine, sizeof before) == 0 && memcmp(g->store, beside, 4 * BIG) == 0;
 }
 
-/* A run of the same clocks ends in the same record and store; it writes the same answers and nothing past them. */
+/* A run of the same clocks ends with the same record and store; it writes the same answers and nothing after them. */
 static int same_run(given *g, trm_machine first, uint32_t *beside, uint64_t finished)
 {
     static uint8_t bytes[CLOCKS + SPARE];
     static uint32_t words[CLOCKS + SPARE];
     memset(bytes, 0xA5, sizeof bytes);
     memset(words, 0xA5, sizeof words);
-    trm_run_answer r = trm_run(first, LENT_PROGRAM(g), beside, BIG, g->lines, CLOCKS, g->inputs, CLOCKS, bytes, CLOCKS, words, CLOCKS);
+    trm_run_answer r = trm_run(first, LENT_PROGRAM(g), beside, BIG, g->line_bytes, CLOCKS, g->inputs, CLOCKS, bytes, CLOCKS, words, CLOCKS);
     int past = 0;
     for (int i = CLOCKS; i < CLOCKS + SPARE; i++)
         past |= bytes[i] != 0xA5 || words[i] != 0xA5A5A5A5;
@@ -109,11 +110,11 @@ static int same_run(given *g, trm_machine first, uint32_t *beside, uint64_t fini
 }
 
 /* Lines by chance: a quarter of the clocks held, interrupts seldom. */
-static void draw_lines(given *g)
+static void draw_line_bytes(given *g)
 {
     for (size_t i = 0; i < CLOCKS; i++) {
         uint32_t dice = chance();
-        g->lines[i] = (uint8_t)((dice % 4 == 0) << 2 | (dice / 4 % 32 == 0) << 1 | (dice / 128 % 32 == 0));
+        g->line_bytes[i] = (uint8_t)((dice % 4 == 0) << 2 | (dice / 4 % 32 == 0) << 1 | (dice / 128 % 32 == 0));
         g->inputs[i] = chance();
     }
 }
@@ -129,7 +130,7 @@ static void test_round(size_t round, met *m)
         g.program[i] = chance() & 0x3FFFF;
     if (round == 0)
         write_program(g.program);
-    draw_lines(&g);
+    draw_line_bytes(&g);
     trm_machine first = *g.machine;
     memcpy(start, g.store, sizeof start);
     memcpy(beside, g.store, sizeof beside);
@@ -137,9 +138,9 @@ static void test_round(size_t round, met *m)
         clocks = same_clock(&g, beside, at, m, &finished);
         memory = memory && (at % 16 != 0 || seen(&g));
     }
-    hold(clocks, "the lent clock and the clock by value, round", round);
-    hold(memory, "look and copy, round", round);
-    hold(same_run(&g, first, start, finished), "the run, round", round);
+    hold(clocks, "S2.32 the lent clock and the clock by value, round", round);
+    hold(memory, "S2.35 look and copy, round", round);
+    hold(same_run(&g, first, start, finished), "S2.33 the run, round", round);
     m->refills += g.machine->refills;
     m->writebacks += g.machine->writebacks;
     let_go(&g);
@@ -149,10 +150,10 @@ void test_clocks(void)
 {
     met m = {0, 0, 0, 0, 0, 0, 0};
     test_round(0, &m);
-    hold(m.phases == 0x3F && m.modes == 3, "every phase and both modes are met", m.phases);
-    hold(m.held && m.reads && m.writes && m.refills && m.writebacks, "every count moves", m.phases);
+    hold(m.phases == 0x3F && m.modes == 3, "S2.25 every phase and both modes are met", m.phases);
+    hold(m.held && m.reads && m.writes && m.refills && m.writebacks, "S2.29 every count moves", m.phases);
     for (size_t round = 1; round < ROUNDS; round++)
         test_round(round, &m);
-    printf("side by side: %d clocks, %u held, %u device reads, %u device writes, %llu refills, %llu write-backs\n", ROUNDS * CLOCKS,
+    printf("S2.32 side by side: %d clocks, %u held, %u device reads, %u device writes, %llu refills, %llu write-backs\n", ROUNDS * CLOCKS,
            m.held, m.reads, m.writes, (unsigned long long)m.refills, (unsigned long long)m.writebacks);
 }

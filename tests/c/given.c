@@ -1,5 +1,5 @@
 /*
- * The sum of the tests, chance, what the calls are given, and the calls themselves with what must hold of a refused one.
+ * The counts of the tests, random bytes, the arguments of the calls, and the calls with the checks of a refused one.
  * Paper: "It returns the number only and writes nothing".
  * Called: by the other files of tests/c.
  */
@@ -65,8 +65,8 @@ given carved(size_t program, size_t store, size_t clocks)
     g.buffer = g.store + store;
     g.inputs = g.buffer + store;
     g.words = g.inputs + clocks;
-    g.lines = (uint8_t *)(g.words + clocks);
-    g.bytes = g.lines + clocks;
+    g.line_bytes = (uint8_t *)(g.words + clocks);
+    g.bytes = g.line_bytes + clocks;
     return g;
 }
 
@@ -81,8 +81,8 @@ void begin(given *g, size_t program, size_t store, size_t clocks)
     memset(g->piece, 0, g->bytes_of_piece);
     g->program_words = program;
     g->store_words = g->buffer_words = store;
-    g->lines_length = g->inputs_length = g->bytes_length = g->words_length = clocks;
-    g->line = 0;
+    g->line_bytes_length = g->inputs_length = g->bytes_length = g->words_length = clocks;
+    g->line_byte = 0;
     g->address = 0;
     chance_bytes(g->store, 4 * store);
     memset(g->buffer, 0xA5, 4 * store);
@@ -91,7 +91,7 @@ void begin(given *g, size_t program, size_t store, size_t clocks)
     *g->machine = trm_reset(g->store, store).machine;
 }
 
-/* The number of a call that is none: the rest of its answer is not as the header says. */
+/* Not a refusal number: the rest of the answer is not as the header says. */
 enum { ODD = 99 };
 
 static int same(const trm_machine *a, const trm_machine *b)
@@ -101,23 +101,23 @@ static int same(const trm_machine *a, const trm_machine *b)
 
 static uint32_t call_clock(given *g)
 {
-    trm_clock_answer a = trm_clock(g->machine, LENT_PROGRAM(g), LENT_STORE(g), g->line, 7);
+    trm_clock_answer a = trm_clock(g->machine, LENT_PROGRAM(g), LENT_STORE(g), g->line_byte, 7);
     return a.number && (a.byte || a.word || a.finished) ? ODD : a.number;
 }
 
 static uint32_t call_value(given *g)
 {
-    trm_clock_value_answer a = trm_clock_value(*g->machine, LENT_PROGRAM(g), LENT_STORE(g), g->line, 7);
+    trm_clock_value_answer a = trm_clock_value(*g->machine, LENT_PROGRAM(g), LENT_STORE(g), g->line_byte, 7);
     return a.number && (a.byte || a.word || a.finished || !same(&a.machine, g->machine)) ? ODD : a.number;
 }
 
 static uint32_t call_run(given *g)
 {
-    trm_run_answer a = trm_run(*g->machine, LENT_PROGRAM(g), LENT_STORE(g), LENT(g->lines, g->lines_length),
+    trm_run_answer a = trm_run(*g->machine, LENT_PROGRAM(g), LENT_STORE(g), LENT(g->line_bytes, g->line_bytes_length),
                                LENT(g->inputs, g->inputs_length), LENT(g->bytes, g->bytes_length), LENT(g->words, g->words_length));
     if (a.number)
         return a.used || a.finished || !same(&a.machine, g->machine) ? ODD : a.number;
-    return a.used == g->lines_length ? a.number : ODD;
+    return a.used == g->line_bytes_length ? a.number : ODD;
 }
 
 static uint32_t call_look(given *g)
@@ -140,6 +140,8 @@ void expect(int which, given *g, uint32_t number, const char *what, size_t at)
     hold(got == number && (kept || number == 0), what, at);
     if (got != number)
         printf("  call %d gave %u, not %u\n", which, (unsigned)got, (unsigned)number);
+    else if (!kept && number != 0)
+        printf("  S3.2 call %d was refused and yet changed what it was lent\n", which);
 }
 
 void expect_all(given *g, uint32_t number, const char *what, size_t at)

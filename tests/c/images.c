@@ -21,15 +21,15 @@ static void expect_image(const uint8_t *image, size_t bytes, size_t store, uint3
 
 static void test_cut(void)
 {
-    expect_image(NULL, 0, 2048, TRM_REFUSED_KIND, 0, "an empty image", 0);
-    expect_image(NULL, 0, 0, TRM_REFUSED_KIND, 0, "an empty image, no store", 0);
+    expect_image(NULL, 0, 2048, TRM_REFUSED_KIND, 0, "S3.4 an empty image", 0);
+    expect_image(NULL, 0, 0, TRM_REFUSED_KIND, 0, "S3.4 an empty image, no store", 0);
     for (size_t bytes = 1; bytes <= sizeof PAPER; bytes++) {
         int whole = bytes == 18 || bytes == 33;
-        expect_image(PAPER, bytes, 2048, whole ? 0 : TRM_REFUSED_IMAGE, whole || bytes < 18 ? 0 : 18, "an image of bytes", bytes);
+        expect_image(PAPER, bytes, 2048, whole ? 0 : TRM_REFUSED_IMAGE, whole || bytes < 18 ? 0 : 18, "S3.3 an image of bytes", bytes);
     }
 }
 
-/* One byte of the paper's image is another: which refusal, in the record at which byte? */
+/* The paper's image with one byte changed: offset of the byte, its value, the refusal, the offset of the record. */
 static void test_spoiled(void)
 {
     static const struct {
@@ -49,11 +49,11 @@ static void test_spoiled(void)
         uint8_t image[sizeof PAPER];
         memcpy(image, PAPER, sizeof image);
         image[rows[i].at] = rows[i].byte;
-        expect_image(image, sizeof image, 2048, rows[i].number, rows[i].record, "a spoiled image, row", i);
+        expect_image(image, sizeof image, 2048, rows[i].number, rows[i].record, "S4.8 a spoiled image, row", i);
     }
 }
 
-/* A record of zeros is put behind the others, a run with a count of 1; gives where the next begins. */
+/* Appends a record of zeros, for a run with a count of 1; returns where the next record begins. */
 static size_t put(uint8_t *image, size_t at, uint8_t kind, size_t length)
 {
     memset(image + at, 0, 6 + length);
@@ -85,7 +85,7 @@ static void test_records(void)
         size_t bytes = 0;
         for (int k = 0; k < 3; k++)
             bytes = put(image, bytes, rows[i].kinds[k], rows[i].lengths[k]);
-        expect_image(image, bytes, 64, rows[i].number, rows[i].at, "an image of three records, row", i);
+        expect_image(image, bytes, 64, rows[i].number, rows[i].at, "S4.8 an image of three records, row", i);
     }
 }
 
@@ -113,7 +113,7 @@ static void test_no_store(void)
         size_t bytes = put(image, 0, rows[i].kinds[0], rows[i].lengths[0]);
         bytes = put(image, bytes, rows[i].kinds[1], rows[i].lengths[1]);
         image[rows[i].at] = rows[i].byte;
-        expect_image(image, bytes, 63, rows[i].number, 0, "an image for a store of 63 words, row", i);
+        expect_image(image, bytes, 63, rows[i].number, 0, "S3.6 an image for a store of 63 words, row", i);
     }
 }
 
@@ -126,10 +126,10 @@ static void test_limits(void)
         accepted += a.number == TRM_ACCEPTED && a.at == 0;
         refused += a.number == TRM_REFUSED_STORE && a.at == 0;
     }
-    hold(accepted == 10 && refused == 65537 - 10, "an image with every length of store: accepted", accepted);
-    expect_image(PAPER, sizeof PAPER, SIZE_MAX, TRM_REFUSED_STORE, 0, "the largest number as a store", 0);
-    expect_image(zeros, 65537, 2048, TRM_REFUSED_IMAGE, 0, "65,537 bytes", 0);
-    expect_image(zeros, 65536, 2048, TRM_REFUSED_KIND, 0, "65,536 bytes of 0", 0);
+    hold(accepted == 10 && refused == 65537 - 10, "S3.6 an image with every length of store: accepted", accepted);
+    expect_image(PAPER, sizeof PAPER, SIZE_MAX, TRM_REFUSED_STORE, 0, "S3.6 the largest number as a store", 0);
+    expect_image(zeros, 65537, 2048, TRM_REFUSED_IMAGE, 0, "S3.3 65,537 bytes", 0);
+    expect_image(zeros, 65536, 2048, TRM_REFUSED_KIND, 0, "S3.4 65,536 bytes of 0", 0);
 }
 
 static void expect_part(const uint8_t *image, size_t bytes, size_t at, uint32_t number, uint64_t start, uint64_t length, const char *what,
@@ -139,8 +139,8 @@ static void expect_part(const uint8_t *image, size_t bytes, size_t at, uint32_t 
     hold(a.number == number && a.start == start && a.length == length, what, row);
 }
 
-/* The payload of the record at a place: the paper's image has 12 bytes from 6 on, and 9 from 24 on. It is 2 where no record begins, as at
- * the end of the bytes that are left, and 1 where the record that does is cut short. */
+/* The payload of the record at an offset: the paper's image has 12 bytes from 6 on, and 9 from 24 on. The refusal is 2 where no record
+ * begins, as at the end of the bytes, and 1 where a record begins but is cut short. */
 static void test_payloads(void)
 {
     static const struct { size_t bytes, at; uint32_t number; uint64_t start, length; } rows[] = {
@@ -151,8 +151,9 @@ static void test_payloads(void)
         {17, 18, 2, 0, 0},  {6, 0, 1, 0, 0},    {5, 0, 1, 0, 0},    {1, 0, 1, 0, 0},    {1, 1, 2, 0, 0},
     };
     for (size_t i = 0; i < sizeof rows / sizeof rows[0]; i++)
-        expect_part(PAPER, rows[i].bytes, rows[i].at, rows[i].number, rows[i].start, rows[i].length, "the payload of a record, row", i);
-    expect_part(NULL, 0, 0, TRM_REFUSED_KIND, 0, 0, "the payload of an empty image", 0);
+        expect_part(PAPER, rows[i].bytes, rows[i].at, rows[i].number, rows[i].start, rows[i].length,
+                    "S4.6 the payload of a record, row", i);
+    expect_part(NULL, 0, 0, TRM_REFUSED_KIND, 0, 0, "S4.6 the payload of an empty image", 0);
 }
 
 /* Bytes of 0: records of six bytes and no payload, of which 65,536 hold 10,922 and the first four bytes of one more. */
@@ -164,7 +165,7 @@ static void test_payloads_of_zeros(void)
         {65536, 3, 2, 0}, {65536, 65526, 0, 65532}, {65536, 65532, 1, 0}, {65536, 65535, 2, 0}, {65536, 65536, 2, 0},
     };
     for (size_t i = 0; i < sizeof rows / sizeof rows[0]; i++)
-        expect_part(zeros, rows[i].bytes, rows[i].at, rows[i].number, rows[i].start, 0, "the payload of a record of zeros, row", i);
+        expect_part(zeros, rows[i].bytes, rows[i].at, rows[i].number, rows[i].start, 0, "S4.6 the payload of a record of zeros, row", i);
 }
 
 void test_images(void)

@@ -82,6 +82,6 @@ FIELD(trm_part_answer, length, 16, 8);
 
 void test_layout(void)
 {
-    hold(trm_record_size() == sizeof(trm_machine), "the record's size", trm_record_size());
-    hold(trm_record_version() == TRM_RECORD_VERSION, "the record's version", trm_record_version());
+    hold(trm_record_size() == sizeof(trm_machine), "S2.25 the record's size", trm_record_size());
+    hold(trm_record_version() == TRM_RECORD_VERSION, "S2.25 the record's version", trm_record_version());
 }

@@ -7,7 +7,7 @@
 
 #include "edges.h"
 
-/* The word of an instruction by the paper's formats. */
+/* Encodes an instruction by the paper's formats. */
 static uint32_t written(trm_instruction i)
 {
     uint32_t d = i.d << 11;
@@ -49,11 +49,11 @@ static void test_all_words(void)
                memcmp(&a.instruction, &c.instruction, sizeof a.instruction) != 0;
         same += b.word == word;
     }
-    hold(odd == 0, "words decoded, encoded and decoded", odd);
-    hold(same == 144168, "words without an unused bit", same);
+    hold(odd == 0, "S1.4 words decoded, encoded and decoded", odd);
+    hold(same == 144168, "S1.30 words without an unused bit", same);
     for (int bit = 18; bit < 32; bit++) {
         trm_decode_answer a = trm_decode(1u << bit);
-        hold(a.number == TRM_REFUSED_PROGRAM && all_zero(&a.instruction, sizeof a.instruction), "a lone word with bit", (size_t)bit);
+        hold(a.number == TRM_REFUSED_PROGRAM && all_zero(&a.instruction, sizeof a.instruction), "S3.5 a lone word with bit", (size_t)bit);
     }
 }
 
@@ -63,7 +63,7 @@ static const uint32_t MOST[11][5] = {
     {0, 0, 0, 7, 0},  {0, 0, 7, 7, 255},   {0, 0, 7, 7, 255}, {0, 15, 0, 0, 1023}, {0, 0, 0, 0, 4095},
 };
 
-/* The largest fields of a form, but one of them another. */
+/* Encodes a form with its largest fields, one of them changed. */
 static trm_encode_answer with_field(uint32_t form, int at, uint32_t value)
 {
     uint32_t f[5];
@@ -80,21 +80,21 @@ static void test_field(uint32_t form, int at)
         uint32_t value = bit < 32 ? 1u << bit : most + 1;
         trm_encode_answer a = with_field(form, at, value);
         int refused = a.number == TRM_REFUSED_INSTRUCTION && a.word == 0;
-        hold(value <= most ? a.number == TRM_ACCEPTED : refused, "a field of form", form);
+        hold(value <= most ? a.number == TRM_ACCEPTED : refused, "S3.12 a field of form", form);
     }
 }
 
 static void test_fields(void)
 {
     for (uint32_t form = 0; form <= 10; form++) {
-        hold(with_field(form, 0, MOST[form][0]).number == TRM_ACCEPTED, "the largest fields of form", form);
+        hold(with_field(form, 0, MOST[form][0]).number == TRM_ACCEPTED, "S3.12 the largest fields of form", form);
         for (int at = 0; at < 5; at++)
             test_field(form, at);
     }
     for (uint32_t form = 11; form != 0; form *= 2) {
         trm_instruction i = {form, 0, 0, 0, 0, 0};
         trm_encode_answer a = trm_encode(i);
-        hold(a.number == TRM_REFUSED_INSTRUCTION && a.word == 0, "form", form);
+        hold(a.number == TRM_REFUSED_INSTRUCTION && a.word == 0, "S3.12 form", form);
     }
 }
 
@@ -112,15 +112,15 @@ static void test_device(uint32_t device)
 {
     uint8_t bytes[300], written_byte = (uint8_t)(device << 2 | TRM_ANSWER_WRITE);
     memset(bytes, (int)(device << 2 | TRM_ANSWER_READ), sizeof bytes);
-    hold(nowhere(trm_watch(bytes, sizeof bytes, device)), "reads only, device", device);
+    hold(nowhere(trm_watch(bytes, sizeof bytes, device)), "S2.37 reads only, device", device);
     memset(bytes, written_byte ^ 4, sizeof bytes);
-    hold(nowhere(trm_watch(bytes, sizeof bytes, device)), "another's writes, device", device);
+    hold(nowhere(trm_watch(bytes, sizeof bytes, device)), "S2.37 another's writes, device", device);
     bytes[299] = written_byte;
-    hold(at_clock(trm_watch(bytes, sizeof bytes, device), 299), "one write at the end, device", device);
-    hold(nowhere(trm_watch(bytes, 299, device)), "one write past the end, device", device);
+    hold(at_clock(trm_watch(bytes, sizeof bytes, device), 299), "S2.37 one write at the end, device", device);
+    hold(nowhere(trm_watch(bytes, 299, device)), "S2.37 one write past the end, device", device);
     bytes[0] = written_byte;
     trm_watch_answer either = trm_watch(bytes, sizeof bytes, device);
-    hold(at_clock(either, 0) || at_clock(either, 299), "two writes, device", device);
+    hold(at_clock(either, 0) || at_clock(either, 299), "S2.37 two writes, device", device);
 }
 
 static void test_watch(void)
@@ -130,10 +130,10 @@ static void test_watch(void)
         test_device(device);
     for (uint32_t device = 64; device != 0; device *= 2) {
         trm_watch_answer a = trm_watch(bytes, sizeof bytes, device);
-        hold(a.number == TRM_REFUSED_ADDRESS && !a.found && a.clock == 0, "device", device);
+        hold(a.number == TRM_REFUSED_ADDRESS && !a.found && a.clock == 0, "S3.11 device", device);
     }
-    hold(nowhere(trm_watch(NULL, 0, 63)), "no answer bytes", 0);
-    hold(trm_watch(NULL, 0, 64).number == TRM_REFUSED_ADDRESS, "no answer bytes, device 64", 0);
+    hold(nowhere(trm_watch(NULL, 0, 63)), "S2.37 no answer bytes", 0);
+    hold(trm_watch(NULL, 0, 64).number == TRM_REFUSED_ADDRESS, "S3.11 no answer bytes, device 64", 0);
 }
 
 void test_words(void)

@@ -1,6 +1,6 @@
-# All image cases in their order: a name, the bytes, and what must be printed as far as it was written by hand.
+# All image cases in order: a name with the ids of its sentences, the bytes, and the expected output where it was written by hand.
 # Called: imported by tests/images/make and run; it does nothing when run.
-# Reads: tests/images/runs.py, interrupts.py, memory.py, edges.py and long.py beside it.
+# Reads: runs.py, interrupts.py, memory.py, edges.py and long.py of tests/images.
 import sys
 
 sys.dont_write_bytecode = True
@@ -14,7 +14,7 @@ PARTS = [part for group in (runs, interrupts, memory, edges, long) for part in g
 
 
 def cases():
-    """[(name, image, text or None)]; a name has its number in front, so that the files stand in this order."""
+    """[(name, image, text or None)]; a name begins with its number, so that the files sort in this order; then ids of docs/CLAIMS.md."""
     rows = [row for part in PARTS for row in part()]
     named = [(f'{at:03}-{name}', image, text) for at, (name, image, text) in enumerate(rows, 1)]
     assert len({name for name, _, _ in rows}) == len(rows), 'two cases of one name'

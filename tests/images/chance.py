@@ -1,6 +1,6 @@
-# Images by chance: good ones with all kinds of words and clocks, and good ones with some bytes spoiled.
+# Random images: good ones with all kinds of words and clocks, and good ones with some bytes spoiled.
 # Called: imported by tests/images/long.py and run; it does nothing when run.
-# Reads: tests/images/image.py, tests/machine/machine.py for the words. Its dice give the same on every machine.
+# Reads: tests/images/image.py, tests/machine/machine.py for the words. Its random numbers are the same on every machine.
 import sys
 from pathlib import Path
 
@@ -13,7 +13,7 @@ NUMBERS = [0, 1, 2, 4, 7, 8, 255, 0x3FF, 0x8000, 0xFFC0, 0x3FFFF, 0x40000, 0x7FF
 
 
 class Dice:
-    """A congruential generator of 64 bits; the upper half of its state is thrown."""
+    """A congruential generator of 64 bits; a number is the upper half of its state."""
 
     def __init__(self, seed):
         self.state = seed * 0x9E3779B97F4A7C15 % (1 << 64)
@@ -36,7 +36,7 @@ class Dice:
 # ---- good images
 
 def transfer(dice):
-    """LD or ST: base zero mostly, few blocks on few lines, so that hits and dirty misses meet; R1 is often the devices' base."""
+    """LD or ST: mostly base zero, few blocks of few cache lines, so that hits and dirty misses occur; R1 is often the devices' base."""
     kind, d = dice.one_of((m.ld, m.st)), dice.among(0, 6)
     if dice.chance(25):
         return kind(d, 1, dice.below(64))
@@ -77,14 +77,14 @@ def word(dice):
 
 
 def records(dice):
-    """The records of a good image, one after another."""
+    """The records of a good image, in order."""
     first = [m.imm(m.SUB, 1, 64), m.status(dice.one_of((0, 3, 8, 8, 11, 11)))] if dice.chance(70) else []
     yield program(*first, *(word(dice) for _ in range(dice.among(1, 30))))
     if dice.chance(60):
         yield data(*(dice.one_of(NUMBERS) for _ in range(dice.one_of((0, 1, 20, 150)))))
     for _ in range(dice.below(16)):
-        line = dice.one_of((0, 0, 0, 0, 0, 1, 2, 3, 4, 4, 5, 7))
-        yield run(dice.one_of((1, 1, dice.among(1, 12), 1 if line else dice.among(10, 60))), line, dice.one_of(NUMBERS))
+        line_byte = dice.one_of((0, 0, 0, 0, 0, 1, 2, 3, 4, 4, 5, 7))
+        yield run(dice.one_of((1, 1, dice.among(1, 12), 1 if line_byte else dice.among(10, 60))), line_byte, dice.one_of(NUMBERS))
 
 
 def good(dice):
@@ -94,7 +94,7 @@ def good(dice):
 # ---- spoiled images
 
 def spoiled_field(dice, image):
-    """Four bytes somewhere, or the length of a record, or a count, become a number of the list."""
+    """Replaces four bytes somewhere, or the length of a record, or a count by a number of the list."""
     at = dice.below(max(1, len(image) - 3))
     return image[:at] + number(dice.one_of(NUMBERS), 4) + image[at + 4:]
 
@@ -119,12 +119,12 @@ def taken_out(dice, image):
 
 
 def odd_run(dice, image):
-    """One more run at the end, held if it is good; its count and its line byte are at or beyond an edge."""
+    """Appends a run, held if it is good; its count and its line byte are at a limit or beyond."""
     return image + run(dice.one_of((0, 1, 1, 65536, 65537)), dice.one_of((4, 7, 8, 255)), dice.one_of(NUMBERS))
 
 
 def shuffled(dice, _):
-    """Records of two images, one of them twice or in another place."""
+    """Records of two images, one of them twice or moved."""
     parts = [*records(dice), *records(dice)]
     at, to = dice.below(len(parts)), dice.below(len(parts))
     return b''.join(parts[:to] + [parts[at]] + parts[to:])

@@ -1,6 +1,6 @@
-# Image cases with interrupts of both lines: what is saved, what is lost, what is shut out, with listings written by hand.
+# Image cases with both interrupts: what is saved, lost and masked, with listings written by hand.
 # Called: imported by tests/images/cases.py; it does nothing when run.
-# Reads: tests/images/image.py. 2C003H enables both lines, 2C507H is RTI with R7, 3B800H + n branches always.
+# Reads: tests/images/image.py. 2C003H enables both interrupts, 2C507H is RTI with R7, 3B800H + n branches always.
 import sys
 
 sys.dont_write_bytecode = True
@@ -10,8 +10,8 @@ LOOP = program(0x2C003, 0x3B802, 0x2C507, 0x2C507, 0x08001, 0x3BBFE)   # handler
 
 
 def taken():
-    # Line 0, line 1, then both at once: line 0 comes before line 1.
-    yield row('irq-of-each-line', LOOP + run(3) + run(1, 1) + run(2) + run(1, 2) + run(2) + run(1, 3) + run(3), '''
+    # Interrupt line 0, line 1, then both at once: line 0 has priority.
+    yield row('S2.3-S4.12-irq-of-each-line', LOOP + run(3) + run(1, 1) + run(2) + run(1, 2) + run(2) + run(1, 3) + run(3), '''
 clock at word took
 1 000 2C003 1
 3 001 3B802 2
@@ -25,7 +25,7 @@ clock at word took
 end 13 held 0 refills 0 writebacks 0
 ''')
     # The saved PC is that of the word that would have begun: 5 after ADD, 4 after the branch.
-    yield row('irq-between-words', LOOP + run(4) + run(1, 2) + run(2) + run(2) + run(1, 1) + run(2) + run(1), '''
+    yield row('S2.3-irq-between-words', LOOP + run(4) + run(1, 2) + run(2) + run(2) + run(1, 1) + run(2) + run(1), '''
 clock at word took
 1 000 2C003 1
 3 001 3B802 2
@@ -38,8 +38,8 @@ clock at word took
 13 004 08001 1
 end 13 held 0 refills 0 writebacks 0
 ''')
-    # The line stays high: after each RTI the next clock interrupts again, and the loop does not advance.
-    yield row('irq-line-stays-high', program(0x2C001, 0x3BC00, 0x2C507) + run(10, 1), '''
+    # The interrupt line stays high: after each RTI the next clock interrupts again, and the loop does not advance.
+    yield row('S2.3-irq-line-stays-high', program(0x2C001, 0x3BC00, 0x2C507) + run(10, 1), '''
 clock at word took
 1 000 2C001 1
 2 001 irq0 1
@@ -50,9 +50,9 @@ clock at word took
 10 002 2C507 2
 end 10 held 0 refills 0 writebacks 0
 ''')
-    # Z is set before the interrupt and clear in the handler; RTI brings it back, so BEQ at 5 is taken. R0 is of bank 1 in the handler.
+    # Z is set before the interrupt and clear in the handler; RTI restores it, so BEQ at 5 is taken. R0 is of bank 1 in the handler.
     flags = program(0x2C001, 0x3B802, 0x3B803, 0x3BC00, 0x0C000, 0x383FE, 0x00001, 0x2C507)
-    yield row('irq-keeps-flags-and-bank', flags + run(4) + run(1, 1) + run(10), '''
+    yield row('S2.3-S1.21-irq-keeps-flags-and-bank', flags + run(4) + run(1, 1) + run(10), '''
 clock at word took
 1 000 2C001 1
 3 001 3B802 2
@@ -67,7 +67,7 @@ clock at word took
 end 15 held 0 refills 0 writebacks 0
 ''')
     # At FFFH, beyond the program.
-    yield row('irq-at-fff', program(0x2C002, 0x3BBFD, 0, 0x2C507) + run(3) + run(1, 2) + run(3), '''
+    yield row('S2.3-irq-at-fff', program(0x2C002, 0x3BBFD, 0, 0x2C507) + run(3) + run(1, 2) + run(3), '''
 clock at word took
 1 000 2C002 1
 3 001 3BBFD 2
@@ -79,8 +79,8 @@ end 7 held 0 refills 0 writebacks 0
 
 
 def not_taken():
-    # High in flight only: lost. High in the next ready clock: taken. In mode 1: shut out.
-    yield row('irq-in-flight-is-lost', program(0x2C001, 0x20003) + run(2) + run(32, 1) + run(1) + run(1, 1) + run(1, 1), '''
+    # High only while a word is in flight: lost. High in the next ready clock: taken. In mode 1: masked.
+    yield row('S2.3-irq-in-flight-is-lost', program(0x2C001, 0x20003) + run(2) + run(32, 1) + run(1) + run(1, 1) + run(1, 1), '''
 clock at word took
 1 000 2C001 1
 34 001 20003 33
@@ -89,21 +89,21 @@ clock at word took
 37 002 3BC00 1
 end 37 held 0 refills 0 writebacks 0
 ''')
-    yield row('irq-in-held-clocks-is-lost', program(0x2C003) + run(1) + run(3, 7) + run(2), '''
+    yield row('S2.2-S2.3-irq-in-held-clocks-is-lost', program(0x2C003) + run(1) + run(3, 7) + run(2), '''
 clock at word took
 1 000 2C003 1
 5 001 3BC00 1
 6 002 3BC00 1
 end 6 held 3 refills 0 writebacks 0
 ''')
-    yield row('irq-after-held-clocks', program(0x2C003) + run(1) + run(3, 6) + run(1, 2) + held(2) + run(1), '''
+    yield row('S2.2-S2.3-irq-after-held-clocks', program(0x2C003) + run(1) + run(3, 6) + run(1, 2) + held(2) + run(1), '''
 clock at word took
 1 000 2C003 1
 5 001 irq1 1
 8 003 3BC00 1
 end 8 held 5 refills 0 writebacks 0
 ''')
-    yield row('irq-not-enabled', program(0x2C002) + run(1) + run(2, 1) + run(1, 3) + run(1, 3), '''
+    yield row('S2.3-irq-not-enabled', program(0x2C002) + run(1) + run(2, 1) + run(1, 3) + run(1, 3), '''
 clock at word took
 1 000 2C002 1
 2 001 3BC00 1
@@ -113,7 +113,7 @@ clock at word took
 end 5 held 0 refills 0 writebacks 0
 ''')
     # 11 sets the mode with the enables; the next one clears it, and the clock after that is interrupted.
-    yield row('irq-shut-out-by-mode', program(0x2C007, 0x3BC00, 0x2C003) + run(5, 3), '''
+    yield row('S2.3-irq-shut-out-by-mode', program(0x2C007, 0x3BC00, 0x2C003) + run(5, 3), '''
 clock at word took
 1 000 2C007 1
 2 001 3BC00 1
@@ -123,7 +123,7 @@ clock at word took
 end 5 held 0 refills 0 writebacks 0
 ''')
     # The word 3BC00H, in the program or beyond it, can be interrupted like any other.
-    yield row('irq-beside-branch-never', program(0x2C001, 0x3BC00) + run(1) + run(1, 1) + run(1), '''
+    yield row('S6.7-irq-beside-branch-never', program(0x2C001, 0x3BC00) + run(1) + run(1, 1) + run(1), '''
 clock at word took
 1 000 2C001 1
 2 001 irq0 1

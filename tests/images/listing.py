@@ -1,5 +1,5 @@
 #!/usr/bin/env python3
-# A second reading of the paper: what the listing program prints for an image, refused or run.
+# A second implementation from the paper: what the listing program prints for an image, refused or run.
 # Called: python3 tests/images/listing.py prints the listing of its standard input; the other scripts here import it.
 # Reads: tests/machine/machine.py, whose clock it runs. It shares nothing with crates/.
 import sys
@@ -23,7 +23,7 @@ def words(payload):
     return [number(payload[at:at + 4]) for at in range(0, len(payload), 4)]
 
 
-# ---- "Where calls are turned down": a record down the table
+# ---- "Where calls are turned down": the rows for a record, in the table's order
 
 def length_wrong(kind, length):
     if kind == PROGRAM:
@@ -34,7 +34,7 @@ def length_wrong(kind, length):
 
 
 def out_of_place(kind, before):
-    """Unknown, repeated or out of order; before has the kinds of the records before it."""
+    """Whether a kind is unknown, repeated or out of order; `before` has the kinds of the records before it."""
     if kind == PROGRAM:
         return before != []
     if kind == DATA:
@@ -43,7 +43,7 @@ def out_of_place(kind, before):
 
 
 def fault(image, at, before):
-    """The number that the record at a place is refused with, 0 for none."""
+    """The refusal number of the record at an offset, 0 for none."""
     header = image[at:at + HEADER]
     if len(header) < HEADER:
         return 1
@@ -89,27 +89,27 @@ def records(image):
         at = end
 
 
-def run_lines(program, machine, store, runs):
+def run_rows(program, machine, store, runs):
     """A line for each instruction finished and each interrupt taken."""
     took = 0
-    for count, line, inp in runs:
-        if line & 4:                      # held clocks add to the two counts and do nothing else
+    for count, line_byte, inp in runs:
+        if line_byte & 4:                      # held clocks add to the two counts and do nothing else
             machine.clocks += count
             machine.held += count
             continue
         for _ in range(count):
             at = machine.pc
-            _, _, done = m.clock(program, machine, store, line, inp)
+            _, _, done = m.clock(program, machine, store, line_byte, inp)
             took += 1
             if done:
                 yield f'{machine.clocks} {at:03X} {m.word_at(program, at):05X} {took}'
                 took = 0
-            elif machine.phase == m.READY:  # ready, and nothing was carried out: an interrupt, PC 2 or 3
+            elif machine.phase == m.READY:  # ready, and nothing was executed: an interrupt, PC 2 or 3
                 yield f'{machine.clocks} {at:03X} irq{machine.pc - 2} {took}'
                 took = 0
 
 
-def lines(image):
+def rows(image):
     if found := refusal(image):
         yield 'refused {} {}'.format(*found)
         return
@@ -124,13 +124,13 @@ def lines(image):
             runs.append((number(payload[:4]), payload[4], number(payload[5:])))
     machine = m.reset(store)
     yield 'clock at word took'
-    yield from run_lines(program, machine, store, runs)
+    yield from run_rows(program, machine, store, runs)
     yield f'end {machine.clocks} held {machine.held} refills {machine.refills} writebacks {machine.writebacks}'
 
 
 def listing(image):
     """All that the program prints; each line ends in one line feed."""
-    return ''.join(f'{line}\n' for line in lines(image))
+    return ''.join(f'{row}\n' for row in rows(image))
 
 
 if __name__ == '__main__':

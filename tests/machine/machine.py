@@ -1,4 +1,4 @@
-# A second reading of the paper: the TRM as a clocked machine (`Record`, `clock`) and as the plain machine (`Plain`, `plain_clock`).
+# A second TRM written from the paper: as a clocked machine (`Record`, `clock`) and as the plain machine (`Plain`, `plain_clock`).
 # Called: python3 tests/machine/machine.py selftest [programs] compares the two on random programs; tests/machine/ imports it.
 # Reads: nothing; it shares nothing with crates/. The two machines share only the decoding of a word, `execute` and the interrupt rule.
 """Words are 32-bit patterns (0 to 2^32-1) unless named signed. The clock refuses nothing: programs, stores and records are legal."""
@@ -16,7 +16,7 @@ READY, ARITHMETIC, WRITE_BACK, REFILL, UNCACHED, LAST = range(6)
 MODE, CACHE_ON = 4, 8                     # status bits 2 and 3
 LINES, LINE_WORDS, TEN = 16, 8, 10
 FIRST_DEVICE_ADDRESS = 0xFFC0
-EMPTYING = "emptying"                     # a history entry beside (block, is_store)
+EMPTYING = "emptying"                     # a history entry, like (block, is_store)
 NO_ACCESS = (0, 0, 0)                     # byte, word, done
 
 
@@ -119,7 +119,7 @@ def divide(a, b):
     return divmod(signed(b), a) if a > 0 else (0, b)
 
 def arithmetic(word, m):
-    """Operations 0 to 10: R.d, H and the flags; not PC."""
+    """Operations 0 to 10: sets R.d, H and the flags; not PC."""
     op, a, b = operation(word), operand_a(word, m), get(m, d_field(word))
     if op == MOV:
         result = m.h if bit10(word) and word >> 3 & 1 else a
@@ -166,7 +166,7 @@ def control(word, m):
         m.status &= ~MODE
 
 def transfer(word, m, load, save, inp):
-    """LD and ST, not PC; gives the answer byte and word."""
+    """LD and ST, without PC; returns the answer byte and word."""
     addr, d = address(word, m), d_field(word)
     storing = operation(word) == ST
     if is_device(addr):
@@ -181,8 +181,8 @@ def transfer(word, m, load, save, inp):
     return 0, 0
 
 def execute(word, m, load, save, inp):
-    """Carry the word out on pc, h, n z c v, status and regs of m; memory is
-    reached through load(address) and save(address, value).  Gives byte, word."""
+    """Execute the word on pc, h, n z c v, status and regs of m; memory is
+    accessed through load(address) and save(address, value).  Returns byte, word."""
     op, following, answer = operation(word), (m.pc + 1) % 4096, (0, 0)
     if op == CONTROL:
         control(word, m)
@@ -203,9 +203,9 @@ def execute(word, m, load, save, inp):
 
 # ----------------------------------------------- shared: the interrupt rule
 
-def take_interrupt(m, line):
+def take_interrupt(m, line_byte):
     """Take an interrupt if one is due with nothing in flight; say whether."""
-    due = line & m.status & 3
+    due = line_byte & m.status & 3
     if m.status & MODE or not due:
         return False
     m.regs[15] = m.n << 31 | m.z << 30 | m.c << 29 | m.v << 28 | m.pc
@@ -244,7 +244,7 @@ def block_at_pc(word, record, store):
     return address(word, record) % len(store) // LINE_WORDS
 
 def enter(record, phase, count=0):
-    """Go to a phase; says that this is not the instruction's last clock."""
+    """Enter a phase; returns that this is not the instruction's last clock."""
     record.phase, record.count = phase, count
     return False
 
@@ -270,7 +270,7 @@ def lowest_dirty(record):
     return record.dirty.index(1) if 1 in record.dirty else None
 
 def write_back_clock(word, record, store):
-    """One clock of a write-back ten: waits in its first two, then a word each."""
+    """One clock of a write-back burst: the first two wait, the others write a word each."""
     clearing = operation(word) == CONTROL
     line = lowest_dirty(record) if clearing else block_at_pc(word, record, store) % LINES
     i = record.count - 2
@@ -297,7 +297,7 @@ def refill_clock(word, record, store):
     return enter(record, LAST)
 
 def begin_transfer(word, record, store):
-    """First clock of LD or ST; says whether it is also the last."""
+    """First clock of LD or ST; returns whether it is also the last."""
     loading = operation(word) == LD
     block = block_at_pc(word, record, store)
     device = is_device(address(word, record))
@@ -311,7 +311,7 @@ def begin_transfer(word, record, store):
     return enter(record, REFILL)
 
 def begin(word, record, store):
-    """First clock of an instruction; says whether it is also the last."""
+    """First clock of an instruction; returns whether it is also the last."""
     op = operation(word)
     if op in (MUL, DIV):
         return step_arithmetic(word, record)
@@ -324,7 +324,7 @@ def begin(word, record, store):
     return enter(record, LAST) if two else True
 
 def advance(word, record, store):
-    """One unheld clock short of carrying out; says whether it is the last."""
+    """One unheld clock without the execution; returns whether it is the last."""
     if record.phase == READY:
         return begin(word, record, store)
     if record.phase == ARITHMETIC:
@@ -339,7 +339,7 @@ def advance(word, record, store):
     return True
 
 def finish(word, record, store, inp):
-    """The last clock: the word is carried out, the machine is ready again."""
+    """The last clock: the word is executed, the machine is ready again."""
     cached, clearing = record.status & CACHE_ON, clears_cache(word, record)
 
     def in_line(addr):
@@ -363,13 +363,13 @@ def finish(word, record, store, inp):
     enter(record, READY)
     return byte, moved, 1
 
-def clock(program, record, store, line, inp):
+def clock(program, record, store, line_byte, inp):
     """One clock; changes record and store, gives (byte, word, done)."""
     record.clocks += 1
-    if line & 4:
+    if line_byte & 4:
         record.held += 1
         return NO_ACCESS
-    if record.phase == READY and take_interrupt(record, line):
+    if record.phase == READY and take_interrupt(record, line_byte):
         return NO_ACCESS
     word = word_at(program, record.pc)
     if advance(word, record, store):
@@ -377,14 +377,14 @@ def clock(program, record, store, line, inp):
     return NO_ACCESS
 
 def view(record, store, addr):
-    """A look: a full line's word stands before the store's."""
+    """A look: the word of a full cache line, else that of the store."""
     block, i = divmod(addr % len(store), LINE_WORDS)
     if holds(record, block):
         return record.words[block % LINES * LINE_WORDS + i]
     return store[block * LINE_WORDS + i]
 
 def copy(record, store):
-    """The whole memory as `view` shows it."""
+    """All of memory, as `view` shows it."""
     memory = list(store)
     for line in range(LINES):
         if record.full[line]:
@@ -409,7 +409,7 @@ def since_emptying(history):
     return history
 
 def line_by_history(history, line):
-    """(block, dirty) that the line holds, or (None, False)."""
+    """(block, dirty) of the cache line, or (None, False) if empty."""
     held, dirty = None, False
     for block, is_store in since_emptying(history):
         if block % 16 == line:
@@ -431,7 +431,7 @@ def is_emptying(word, plain):
     return word >> 14 == 11 and not word >> 10 & 1 and plain.status >> 3 & 1 > word >> 3 & 1
 
 def tens(word, plain):
-    """[(clock of the instruction in which a ten is over, its count's name)]."""
+    """[(clock of the instruction in which a burst is over, its count's name)]."""
     if is_emptying(word, plain):
         return [(10 * (i + 1), "writebacks") for i in range(dirty_lines(plain.history))]
     block = plain_block(word, plain)
@@ -443,7 +443,7 @@ def tens(word, plain):
     return [(11, "writebacks"), (21, "refills")] if dirty else [(11, "refills")]
 
 def charge(word, plain):
-    """Clocks of the word by the clock table, state and history."""
+    """Clocks of the word, by the clock table, the state and the history."""
     op = word >> 14
     over = tens(word, plain)
     if over:
@@ -474,13 +474,13 @@ def carry_out(word, plain, inp):
         plain.history.append(EMPTYING)
     return byte, moved, 1
 
-def plain_clock(program, plain, line, inp):
+def plain_clock(program, plain, line_byte, inp):
     """One clock of the plain machine; gives (byte, word, done)."""
     plain.clocks += 1
-    if line & 4:
+    if line_byte & 4:
         plain.held += 1
         return NO_ACCESS
-    if plain.left == 0 and take_interrupt(plain, line):
+    if plain.left == 0 and take_interrupt(plain, line_byte):
         return NO_ACCESS
     word = word_at(program, plain.pc)
     whole = charge(word, plain)           # the state is that of the first clock
@@ -508,7 +508,7 @@ def compare(record, store, plain, answers, where):
     check(f"{where} memory", copy(record, store), plain.memory)
 
 def phase_rule(program, record, store):
-    """The record's rules of refusal 5 that a reached record must keep."""
+    """The rules of refusal 5 that every reached record must keep."""
     word = word_at(program, record.pc)
     op, k, phase, clearing = operation(word), record.count, record.phase, clears_cache(word, record)
     memory = op in (LD, ST) and not is_device(address(word, record))
@@ -532,7 +532,7 @@ def phase_rule(program, record, store):
     check("record rules", (bool(good), lines, registers), (True, True, True))
 
 def both(program, regs=(), words=(), length=2048, status_bits=0):
-    """The two machines at reset, then given registers, store words, status."""
+    """The two machines after reset, with these registers, store words and status."""
     store = [0] * length
     for addr, value in words:
         store[addr] = value
@@ -544,7 +544,7 @@ def both(program, regs=(), words=(), length=2048, status_bits=0):
     return record, store, plain
 
 def run(program, machines, clocks, inp=0):
-    """Run both unheld; gives the clocks (from 1) at which words finished and
+    """Run both unheld; returns the clocks (from 1) at which words finished and
     the answers (byte, word) of those clocks."""
     record, store, plain = machines
     finished, answers = [], []
@@ -558,7 +558,7 @@ def run(program, machines, clocks, inp=0):
     return finished, answers
 
 def starred_arithmetic():
-    low = 1 << 31                         # op, B, A, result, then what is stated
+    low = 1 << 31                         # op, B, A, result, then what the paper states
     rows = [(SUB, 0, 1, MASK32, dict(n=1, z=0, c=1, v=0)),
             (ADD, low - 1, 1, low, dict(n=1, z=0, c=0, v=1)),
             (ADD, low, low, 0, dict(n=0, z=1, c=1, v=1)),
@@ -566,7 +566,7 @@ def starred_arithmetic():
             (MUL, -1, -1, 1, dict(h=0)), (MUL, low, low, 0, dict(h=0x40000000)),
             (DIV, -7, 2, -4 & MASK32, dict(h=1)), (DIV, low, 1, low, dict(h=0)),
             (DIV, 7, 0, 0, dict(h=7)),
-            (DIV, -8, 3, -3 & MASK32, dict(h=1))]           # tells a remainder from its complement
+            (DIV, -8, 3, -3 & MASK32, dict(h=1))]           # distinguishes a remainder from its complement
     for op, b, a, result, stated in rows:
         program = [reg(op, 1, 2)]
         machines = both(program, regs=((1, b), (2, a)))
@@ -596,7 +596,7 @@ def listing_example():
     check("listing", run(program, both(program), 40)[0], [1, 34, 36, 38, 40])
 
 def shared_execute():
-    """Hand-worked cases of `execute`, to which the comparison is blind."""
+    """Cases of `execute` worked out by hand, which the comparison cannot check."""
     def after(word, *names, **fields):
         m = Record(64)
         m.regs = [0x100 + i for i in range(16)]
@@ -682,7 +682,7 @@ def stepping_circuits(rng, pairs=400):
             check(f"divider {a} {b} {k}", (divider.remainder, divider.quotient), wanted)
 
 def random_words(rng, regs_used, size):
-    """One word or two, biased towards conflicts on lines and changes of status."""
+    """One word or two, biased towards conflicts on cache lines and changes of status."""
     d, s = rng.randrange(regs_used), rng.choice((7, rng.randrange(regs_used)))
     off = rng.choice((0, 1, 7, 8, 9, 16, 128, 129, 135, 136, 144, 255, rng.randrange(256)))
     kind = rng.random()
@@ -729,16 +729,16 @@ def random_start(rng):
                                 rng.getrandbits(32) & 0xF000000F))) for i in range(16)]
     return program, both(program, regs, words, length)
 
-def random_lines(rng, clocks):
+def random_line_bytes(rng, clocks):
     stalls, calls = rng.choice((0, 0.1, 0.3)), rng.choice((0, 0.05, 0.3))
     return [4 * (rng.random() < stalls) + 2 * (rng.random() < calls) + (rng.random() < calls)
             for _ in range(clocks)]
 
-def note(seen, before, record, line, got, word):
+def note(seen, before, record, line_byte, got, word):
     """Count what the random programs reached, so that silence means something."""
     phase, count, status_before = before
     what = ["clocks"]
-    if not line & 4 and phase == READY and record.phase == READY and not got[2]:
+    if not line_byte & 4 and phase == READY and record.phase == READY and not got[2]:
         what.append("interrupts")
     if got[2]:
         what.append("words")
@@ -748,7 +748,7 @@ def note(seen, before, record, line, got, word):
     if record.phase == WRITE_BACK and record.count == 0:
         what.append("second or later tens of an emptying" if operation(word) == CONTROL
                     else "dirty misses")
-    if line & 4:
+    if line_byte & 4:
         what.append("held")
         if phase == ARITHMETIC and count == 32:
             what.append("held before clock 33")
@@ -760,14 +760,14 @@ def note(seen, before, record, line, got, word):
 def random_program(seed, clocks, seen):
     rng = random.Random(seed)
     program, (record, store, plain) = random_start(rng)
-    for line in random_lines(rng, clocks):
+    for line_byte in random_line_bytes(rng, clocks):
         inp, word = rng.getrandbits(32), word_at(program, record.pc)
         before = record.phase, record.count, record.status
-        got = clock(program, record, store, line, inp)
-        wanted = plain_clock(program, plain, line, inp)
+        got = clock(program, record, store, line_byte, inp)
+        wanted = plain_clock(program, plain, line_byte, inp)
         compare(record, store, plain, (got, wanted), f"seed {seed} clock {record.clocks}")
         phase_rule(program, record, store)
-        note(seen, before, record, line, got, word)
+        note(seen, before, record, line_byte, got, word)
     check("view", [view(record, store, a) for a in range(len(store))], plain.memory)
     for name in ("refills", "writebacks"):
         seen[name] = seen.get(name, 0) + getattr(record, name)
@@ -776,7 +776,7 @@ REACHED = ["clocks", "words", "held", "held before clock 33", "interrupts", "dev
            "second or later tens of an emptying", "refills", "writebacks"] + [f"op {op}" for op in range(16)]
 
 def random_programs(programs=150, clocks=300):
-    """Gives how often each thing of REACHED was met; each must be."""
+    """Returns how often each event of REACHED occurred; each must occur."""
     seen = {}
     for seed in range(programs):
         random_program(seed, clocks, seen)

@@ -1,4 +1,4 @@
-# The refusals of the paper and the cases of crates/trm_core/specs/Refused.antt: what each call must give.
+# The refusals of the paper and the cases of crates/trm_core/specs/Refused.antt: what each call must return.
 # Called: python3 tests/machine/refused.py prints the cases; tests/machine/run imports it.
 # Reads: nothing. Rows 3 to 9 of "Where calls are turned down", written from the paper over the record of machine.py.
 import sys
@@ -23,7 +23,7 @@ def widths_ok(record):
 
 
 def registers_ok(word, record):
-    """The multiplier's and divider's registers are those stated."""
+    """Whether the registers of multiplier and divider are as the paper states."""
     stated = m.Record(record.store_len)
     stated.regs, stated.status = record.regs, record.status
     if record.phase == m.ARITHMETIC and m.operation(word) in (m.MUL, m.DIV):
@@ -80,20 +80,20 @@ def reset(store):
     return 0 if length_ok(len(store)) else 4
 
 
-def clock(program, record, store, line):
+def clock(program, record, store, line_byte):
     number = record_rows(program, record, store)
-    return number or (6 if line > 7 else 8 if record.clocks + 1 > MOST_CLOCKS else 0)
+    return number or (6 if line_byte > 7 else 8 if record.clocks + 1 > MOST_CLOCKS else 0)
 
 
-def run(program, record, store, lines, inputs, answer_bytes, answer_words):
+def run(program, record, store, line_bytes, inputs, answer_bytes, answer_words):
     number = record_rows(program, record, store)
     if number:
         return number
-    if len(lines) != len(inputs) or len(lines) > 65536 or any(line > 7 for line in lines):
+    if len(line_bytes) != len(inputs) or len(line_bytes) > 65536 or any(line_byte > 7 for line_byte in line_bytes):
         return 6
-    if len(answer_bytes) != len(lines) or len(answer_words) != len(lines):
+    if len(answer_bytes) != len(line_bytes) or len(answer_words) != len(line_bytes):
         return 7
-    return 8 if record.clocks + len(lines) > MOST_CLOCKS else 0
+    return 8 if record.clocks + len(line_bytes) > MOST_CLOCKS else 0
 
 
 def look(program, record, store, address):
@@ -123,7 +123,7 @@ def record_with(**fields):
 
 
 def flying(bits, phase, count, line=(0, 0, 0), registers=(0, 0, 0), at=0):
-    """Status, phase and count; full, dirty and block of a line; product, remainder, quotient. R0 is 3 and R1 FFC0H."""
+    """Status, phase and count; full, dirty and block of a cache line; product, remainder, quotient. R0 is 3 and R1 FFC0H."""
     full, dirty, block = ([0] * at + [x] + [0] * (15 - at) for x in line)
     product, remainder, quotient = registers
     return record_with(status=bits, phase=phase, count=count, full=full, dirty=dirty, block=block, product=product,
@@ -269,7 +269,7 @@ def byte_cases():
 
 
 def scenario_cases():
-    """The scenario's record after the clock named, in all six phases, and after every clock."""
+    """The scenario's record after a given clock, in all six phases, and after every clock."""
     program, numbers = scenario.words(), []
     for record, store, _, _ in scenario.clocks():
         numbers.append((record.phase, clock(program, record, store, 0)))
@@ -329,12 +329,21 @@ def order_cases():
     yield copy(NEVER, bad, RAM, [0] * 255), 'rows 5 and 7'
 
 
+# Ids of sentences in docs/CLAIMS.md: by refusal number, and by part; a part without ids has those of its numbers.
+ROWS = {3: 'S3.5', 4: 'S3.6', 5: 'S3.7', 6: 'S3.8', 7: 'S3.9', 8: 'S3.10', 9: 'S3.11'}
+PARTS = {reset_cases: 'S3.6', clock_cases: '', width_cases: 'S3.7 S1.1', phase_cases: 'S3.7 S2.25 S2.27',
+         register_cases: 'S3.7 S2.13 S2.14 S2.15', count_cases: 'S3.7 S2.29', line_cases: 'S3.7 S2.21', byte_cases: '',
+         scenario_cases: 'S2.45', run_cases: '', look_cases: '', copy_cases: '', watch_cases: 'S3.11', order_cases: 'S3.1'}
+ACCEPTED = {clock_cases: 'S3.5', byte_cases: 'S3.8 S3.10', run_cases: 'S3.8 S3.10', look_cases: 'S3.11', copy_cases: 'S3.9'}
+
+
 def cases():
-    for part in (reset_cases, clock_cases, width_cases, phase_cases, register_cases, count_cases, line_cases, byte_cases,
-                 scenario_cases, run_cases, look_cases, copy_cases, watch_cases, order_cases):
-        yield from part()
+    """(number, what, ids of its sentences)"""
+    for part, ids in PARTS.items():
+        for number, what in part():
+            yield number, what, ids or ROWS.get(number) or ACCEPTED[part]
 
 
 if __name__ == '__main__':
-    for number, what in cases():
-        print(number, what)
+    for case in cases():
+        print(*case)

@@ -1,6 +1,6 @@
-# The scenario of crates/trm_core/specs/Scenario.antt on the machine of machine.py: what the clocks of both machines must come to.
+# The scenario of crates/trm_core/specs/Scenario.antt on the machine of machine.py: what the clocks of both machines must give.
 # Called: python3 tests/machine/scenario.py prints the expected numbers; with --trace a line for each clock; tests/machine/run imports it.
-# Reads: nothing. The words, line bytes and digests stand here as they do in that file, written from the paper.
+# Reads: nothing. The words, line bytes and digests are written here as in that file, from the paper.
 import sys
 
 sys.dont_write_bytecode = True
@@ -45,7 +45,7 @@ PROGRAM = [
 ]
 
 # how many clocks have a line byte: 4 is the stall, 1 and 2 the interrupts
-LINES = [
+LINE_BYTES = [
     (5, 0), (1, 4), (7, 0), (1, 4), (11, 0), (1, 1), (1, 0), (1, 4), (31, 0), (18, 1), (1, 5), (1, 1), (4, 3), (2, 2), (64, 0),
     (10, 2), (4, 0), (1, 4), (76, 0),
 ]
@@ -57,8 +57,8 @@ def words():
     return [word for word, _ in PROGRAM]
 
 
-def lines():
-    return [byte for clocks, byte in LINES for _ in range(clocks)]
+def line_bytes():
+    return [byte for clocks, byte in LINE_BYTES for _ in range(clocks)]
 
 
 def first_store():
@@ -66,7 +66,7 @@ def first_store():
 
 
 def mixed(numbers):
-    """The digest of a list, from its end: 0, then times 31 plus the number, mod 1,000,003."""
+    """The digest of a list, from its end: 0, then for each number times 31 plus the number, mod 1,000,003."""
     digest = 0
     for number in reversed(numbers):
         digest = (digest * 31 + number) % 1000003
@@ -82,7 +82,7 @@ def counts(x):
 
 
 def record_numbers(record, store, answer):
-    """What the digest takes of the record, its store and the answer after a clock."""
+    """What goes into the digest of the record, its store and the answer after a clock."""
     running = [record.phase, record.count, record.product, record.remainder, record.quotient]
     cache = record.full + record.dirty + record.block + record.words[:16]
     return [*seen(record), *running, record.store_len, *counts(record), *record.regs, *cache,
@@ -90,12 +90,12 @@ def record_numbers(record, store, answer):
 
 
 def plain_numbers(plain, answer):
-    """What the digest takes of the plain machine and the answer after a clock."""
+    """What goes into the digest of the plain machine and the answer after a clock."""
     return [*seen(plain), *plain.regs, plain.left, *counts(plain), *plain.memory[:16], *plain.memory[128:144], *answer]
 
 
 def spans(values):
-    """How often in a row each value comes."""
+    """How often in succession each value comes."""
     out = []
     for value in values:
         if out and out[-1][1] == value:
@@ -106,12 +106,12 @@ def spans(values):
 
 
 def clocks():
-    """After each clock: the record, its store, the plain machine, and the answer of both; the machines go on being changed."""
+    """After each clock: the record, its store, the plain machine, and the answer of both; later clocks change the same objects."""
     program, store = words(), first_store()
     record, plain = m.reset(store), m.Plain(store)
-    for number, line in enumerate(lines(), 1):
-        answer = m.clock(program, record, store, line, 1000 + number)
-        other = m.plain_clock(program, plain, line, 1000 + number)
+    for number, line_byte in enumerate(line_bytes(), 1):
+        answer = m.clock(program, record, store, line_byte, 1000 + number)
+        other = m.plain_clock(program, plain, line_byte, 1000 + number)
         m.compare(record, store, plain, (answer, other), f'clock {number}')
         m.phase_rule(program, record, store)
         yield record, store, plain, answer
@@ -132,8 +132,8 @@ def expected():
 def trace():
     """A line for each clock: its number, line byte, the word's address and text, then phase, count, status and answer after it."""
     at = 0
-    for (record, _, _, answer), line in zip(clocks(), lines()):
-        print(record.clocks, line, at, PROGRAM[at][1], '->', record.phase, record.count, record.status, *answer)
+    for (record, _, _, answer), line_byte in zip(clocks(), line_bytes()):
+        print(record.clocks, line_byte, at, PROGRAM[at][1], '->', record.phase, record.count, record.status, *answer)
         at = record.pc
 
 

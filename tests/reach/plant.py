@@ -1,15 +1,15 @@
-# Plants a counter at every function, at both ways of every condition and at every arm of a match, and makes Rust of the text.
+# Inserts a counter at every function, at both outcomes of every condition and at every arm of a match, and translates the text to Rust.
 # Called: imported by tests/reach/workspace.py; it does nothing when run.
-# Reads: nothing; a file's text is handed to it. A form that it does not know stops it with the file and the line.
+# Reads: nothing; it gets a file's text. It stops at a form that it does not know, with the file and the line number.
 from dataclasses import dataclass
 
 from rattle import Unknown, partners_of, text_of, tokens_of
 
-# Every name of Rust's that leads a form; those that are known here may occur.
+# Every keyword of Rust that begins a form; only those known here may occur.
 RUST = set('''as async await break const continue crate dyn else enum extern fn for if impl in let loop macro_rules match mod move mut pub
     ref return self static struct super trait type union unsafe use where while yield'''.split())
 KNOWN = set('as break const continue crate else enum extern fn if impl let match mod mut pub return self struct super use while'.split())
-# Marks that lead to a way of their own, for which no counter is planted: a second operand that may not be met, an early return.
+# Operators with a branch of their own, for which no counter is inserted: an operand that may not be evaluated, an early return.
 BRANCHING = {'&&', '||', '?'}
 
 
@@ -28,7 +28,7 @@ class Place:
 
 
 class Planter:
-    """One file: its tokens, and what is put in front of them."""
+    """One file: its tokens, and what is inserted before them."""
 
     def __init__(self, path, text, first):
         self.path, self.first = path, first
@@ -52,7 +52,7 @@ class Planter:
         return inside[-1] if inside else self.stop(at, 'a branch outside any function')
 
     def new_place(self, at, text):
-        """The number of a new place; a text that the function has already is counted on."""
+        """The number of a new place; a text that occurs again in the function gets a count."""
         function = self.function_at(at)
         times = self.names[function, text] = self.names.get((function, text), 0) + 1
         self.places.append(Place(self.path, self.tokens[at].line, function, text if times == 1 else f'{text} #{times}'))
@@ -61,7 +61,7 @@ class Planter:
     # ---- the forms
 
     def next_open(self, at, wanted='{'):
-        """The index of the next such bracket that stands inside no other."""
+        """The index of the next such bracket that is not inside another."""
         while not self.is_mark(at, wanted):
             if at >= len(self.tokens) or self.is_mark(at, ';', '}'):
                 self.stop(min(at, len(self.tokens) - 1), f'a `{wanted}` is missing')
@@ -77,7 +77,7 @@ class Planter:
             self.lend_slices(at, body)
 
     def plant_condition(self, at):
-        """if and while: which of the two ways the condition leads to."""
+        """if and while: a counter for each of the two outcomes of the condition."""
         body = self.next_open(at + 1)
         if self.is_mark(at + 1, 'let'):
             self.stop(at, f'`{self.tokens[at].text} let`')
@@ -96,7 +96,7 @@ class Planter:
             arm = self.plant_arm(arm, end, over)
 
     def plant_arm(self, begin, end, over):
-        """One arm; gives the index where the next begins."""
+        """One arm; returns the index where the next begins."""
         arrow = begin
         while not self.is_mark(arrow, '=>'):
             if arrow >= end or self.is_mark(arrow, 'if', '|'):
@@ -115,7 +115,7 @@ class Planter:
         return after + 1
 
     def counters(self, begin, arrow, over):
-        """What counts an arm: one counter, or for numbers from one to another a counter for each of the two ends."""
+        """The counters of an arm: one, or for a range of numbers one for each of its two ends."""
         pattern = text_of(self.tokens[begin:arrow])
         marks = [token.text for token in self.tokens[begin:arrow]]
         if '..' not in marks and '..=' not in marks:
@@ -126,7 +126,7 @@ class Planter:
         return ''.join(f' if {over} == {value} {{ reach::hit({place}); }}' for value, place in ends)
 
     def lend_slices(self, at, body):
-        """A slice of an exported function is a pointer and a length, as C sees it."""
+        """A slice parameter of an exported function becomes a pointer and a length, as in C."""
         begin = self.next_open(at, '(')
         end = self.partners[begin]
         if any(self.is_mark(i, '&') for i in range(end, body)):
@@ -161,7 +161,7 @@ class Planter:
             self.stop(at, f'a macro: {text}!')
 
     def plant(self):
-        """Plants all counters; gives the text as Rust."""
+        """Inserts all counters; returns the text as Rust."""
         forms = {'fn': self.plant_function, 'if': self.plant_condition, 'while': self.plant_condition, 'match': self.plant_match}
         for at, token in enumerate(self.tokens):
             if token.kind == 'mark' and token.text in BRANCHING:
@@ -171,7 +171,7 @@ class Planter:
                 forms.get(token.text, lambda _: None)(at)
                 if token.text in ('struct', 'enum'):  # Rattle copies such a value where it is used
                     self.before[at - self.is_mark(at - 1, 'pub')] += ' #[derive(Clone, Copy)]'
-                if token.text == 'std':  # the kit's own: std::num
+                if token.text == 'std':  # the kit's: std::num
                     token.text = 'reach'
         pieces = [token.gap + before + ' ' * bool(before) + token.text for token, before in zip(self.tokens, self.before)]
         return ''.join(pieces) + self.before[-1] + '\n'

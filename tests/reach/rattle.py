@@ -1,6 +1,6 @@
-# Reads Rattle's text as tokens, without what only a proof reads: contracts, `ghost use` and comments.
+# Splits Rattle code into tokens, without what only proofs use: contracts, `ghost use` and comments.
 # Called: imported by tests/reach/plant.py; it does nothing when run.
-# Reads: nothing; a text is handed to it. What it does not know stops it with the file and the line.
+# Reads: nothing; it gets a text. It stops at anything that it does not know, with the file and the line number.
 import re
 from dataclasses import dataclass
 
@@ -15,7 +15,7 @@ PAIRS = {'(': ')', '[': ']', '{': '}'}
 
 
 class Unknown(Exception):
-    """A form of the language that this check does not deal with."""
+    """A form of the language that this check does not handle."""
 
     def __init__(self, path, line, what):
         super().__init__(f'{path}:{line}: {what}')
@@ -26,11 +26,11 @@ class Token:
     kind: str
     text: str
     line: int
-    gap: str  # the blanks and line ends in front of it
+    gap: str  # the white space before it
 
 
 def braces_end(path, text, at):
-    """The place after the brace that closes the one in front of this place."""
+    """The index after the brace that closes the one before this index."""
     depth = 1
     for mark in re.finditer(r'[{}]', text[at:]):
         depth += 1 if mark[0] == '{' else -1
@@ -40,7 +40,7 @@ def braces_end(path, text, at):
 
 
 def ghost_end(path, text, at, name):
-    """The place after a contract or a `ghost use` that begins here."""
+    """The index after a contract or a `ghost use` that begins here."""
     pattern = GHOST_USE if name == 'ghost' else CONTRACT
     found = pattern.match(text, at)
     if not found:
@@ -49,7 +49,7 @@ def ghost_end(path, text, at, name):
 
 
 def tokens_of(path, text):
-    """The tokens of a file; line ends are kept, so that a line keeps its number."""
+    """The tokens of a file; line breaks are kept, so that line numbers do not change."""
     tokens, at, line, gap = [], 0, 1, ''
     while at < len(text):
         found = TOKEN.match(text, at)
@@ -84,6 +84,6 @@ def partners_of(path, tokens):
 
 
 def text_of(tokens):
-    """A piece of text on one line; `: ` stands for nothing else in a list of exceptions."""
+    """A text on one line, without `: `, which separates the parts of an exception."""
     joined = ''.join((' ' if token.gap else '') + token.text for token in tokens)
     return joined.strip().replace(': ', ':')

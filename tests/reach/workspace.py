@@ -13,7 +13,7 @@ CRATES = ROOT / 'crates'
 STAND_IN = ROOT / 'tests' / 'reach' / 'stand_in'
 ROOM = ROOT / 'target' / 'reach'
 RELEASE = ROOM / 'target' / 'release'
-# Sums that the proofs show to be in range are tested; a panic ends the process, which no test takes for a pass.
+# Overflow checks are on, although the proofs exclude overflow; a panic ends the process, which every test counts as a failure.
 PROFILE = '''
 [profile.release]
 opt-level = 1
@@ -24,14 +24,14 @@ codegen-units = 1
 
 
 def listed():
-    """(crate, the crates that it can name) for each crate of crates.txt."""
+    """(crate, the crates that it depends on) for each crate of crates.txt."""
     for line in (ROOT / 'crates.txt').read_text(encoding='utf-8').split('\n'):
         if found := re.match(r'(\w+):([^#]*)', line):
             yield found[1], found[2].split()
 
 
 def write(path, text):
-    """A file that is the same already is left alone, so that a second build is short."""
+    """Writes a file unless it is unchanged, so that a second build is short."""
     path.parent.mkdir(parents=True, exist_ok=True)
     if not path.exists() or path.read_text(encoding='utf-8') != text:
         path.write_text(text, encoding='utf-8')
@@ -45,7 +45,7 @@ def write_manifest(crate, needs):
 
 
 def write_crate(crate, first):
-    """The crate as Rust; gives the places in it, numbered from `first` on."""
+    """Writes the crate as Rust; returns its places, numbered from `first` on."""
     places, source = [], CRATES / crate / 'src'
     for path in sorted(source.rglob('*.rt')):
         planter = Planter(str(path.relative_to(CRATES)), path.read_text(encoding='utf-8'), first + len(places))
@@ -55,7 +55,7 @@ def write_crate(crate, first):
 
 
 def write_workspace():
-    """The whole workspace; gives every place, its index being its number."""
+    """Writes the whole workspace; returns every place, its index being its number."""
     places, members = [], ['reach']
     write_manifest('reach', [])
     write(ROOM / 'reach' / 'src' / 'lib.rs', (STAND_IN / 'reach.rs').read_text(encoding='utf-8'))
@@ -73,7 +73,7 @@ def write_workspace():
 
 
 def cargo(*arguments, folder, **variables):
-    """Whether cargo ends well; its warnings are about what the translation leaves behind, and are not shown."""
+    """Whether cargo succeeds; its warnings come from the translation and are not shown."""
     environment = {**os.environ, 'RUSTFLAGS': '--cap-lints allow', **variables}
     done = subprocess.run(['cargo', 'build', '--release', '--offline', '--quiet', *map(str, arguments)],
                           cwd=folder, env=environment, capture_output=True, text=True)
@@ -87,7 +87,7 @@ def build_crates():
 
 
 def build_compare():
-    """tests/rust/compare over the archive with counters."""
+    """Builds tests/rust/compare with the archive that has counters."""
     return cargo('--package', 'compare', '--target-dir', ROOM / 'compare', folder=ROOT / 'tests' / 'rust',
                  TRM_ARCHIVE=str(RELEASE), CARGO_PROFILE_RELEASE_OPT_LEVEL='1')
 

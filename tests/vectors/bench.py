@@ -1,6 +1,6 @@
-# The bench of the program trm_vectors as a script sees it: its lines, its answers, and the machine that they leave.
+# The machine of a script of trm_test_vectors: the input lines, the answers, and the state after them.
 # Called: imported by tests/vectors/scripts.py; it does nothing when run.
-# Reads: tests/machine/. What clocks do is told by machine.py there; a script gives each call's refusal number, 0 for none.
+# Reads: tests/machine/. machine.py there computes what clocks do; a script gives each call's refusal number, 0 for none.
 import sys
 from pathlib import Path
 
@@ -15,11 +15,11 @@ ARRAYS = {'regs': (17, 16), 'full': (33, 16), 'dirty': (49, 16), 'block': (65, 1
 WIDE = 1 << 32
 
 
-def line(kind, *words):
+def case_text(kind, *words):
     return ' '.join([kind] + [f'{w:08X}' for w in (list(words) + [0] * 4)[:4]])
 
 
-# ---- digests, as crates/trm_vectors/src/digest.rt has them
+# ---- digests, as in crates/trm_test_vectors/src/digest.rt
 
 def mixed(digest, half):
     return (digest * 31 + half) % 4294967291
@@ -37,30 +37,32 @@ def of_record(record):
     return of_list(half for value in values for half in (value % WIDE, value // WIDE))
 
 
-# ---- the bench, as crates/trm_vectors/src/script.rt and bench.rt have it
+# ---- the machine of a script, as in crates/trm_test_vectors/src/script.rt and bench.rt
 
 class Script:
-    """Lines and answers so far, and the bench that they leave: a record, a program and a store, of which a part is lent."""
+    """Input lines and answers so far, and the state after them: a record, a program and a store, of which a part is lent."""
 
     def __init__(self):
-        self.rows, self.figures = [], []
+        self.rows, self.figures, self.ids = [], [], ''    # rows are (line, ids of its sentences, answer)
         self.record, self.words, self.store, self.lent = m.Record(64), [0] * 4097, [0] * 65536, (0, 0)
         self.edges = {}                       # how many calls have each number
 
-    def line(self, kind, *words, answer=''):
-        self.rows.append((line(kind, *words), answer))
+    def case(self, kind, *words, answer=''):
+        self.rows.append((case_text(kind, *words), self.ids, answer))
 
-    def head(self, text):
+    def head(self, ids, text):
+        """A heading; the lines from here on test the sentences of these ids."""
         assert len(text) <= 35, text
-        self.rows.append((f'# {text:<35}', ''))
+        self.ids = ids
+        self.rows.append((f'# {text:<35}', ids, ''))
 
     def hold(self, what, found, given):
-        """A figure of the paper, if there is one, against what was worked out."""
+        """Compares a figure of the paper, if there is one, with the computed one."""
         if given is not None:
-            self.figures.append((f'{what}: {found}, given {given}', found == given))
+            self.figures.append((f'{self.ids}: {what}: {found}, given {given}', found == given))
 
     def number(self, what, number, by_rows):
-        """A refusal number, written here from the table, against tests/machine/refused.py."""
+        """Compares a refusal number, written here from the table, with tests/machine/refused.py."""
         self.edges[number] = self.edges.get(number, 0) + 1
         self.hold(f'line {len(self.rows) + 1}, {what}', by_rows, number)
 
@@ -74,37 +76,37 @@ class Script:
 
     def lend(self, program, store):
         self.lent = program, store
-        self.line('L', program, store)
+        self.case('L', program, store)
 
     def fill(self, which, at, count, word):
         (self.store if which else self.words)[at:at + count] = [word] * count
-        self.line('J', which, at, count, word)
+        self.case('J', which, at, count, word)
 
     def program(self, *words, length):
-        """These words, lent with so many words of the store."""
+        """Sets the program; lends it and the first words of the store."""
         for at, word in enumerate(words):
             self.fill(0, at, 1, word)
         self.lend(len(words), length)
 
     def set(self, **fields):
-        """Fields of the record; those of an array as {index: value}."""
+        """Sets fields of the record; those of an array as {index: value}."""
         for name, value in fields.items():
             if name in ARRAYS:
                 for at, element in value.items():
                     getattr(self.record, name)[at] = element
-                    self.line('F', ARRAYS[name][0] + at, 0, element)
+                    self.case('F', ARRAYS[name][0] + at, 0, element)
             else:
                 setattr(self.record, name, value)
-                self.line('F', FIELDS.index(name), value // WIDE, value % WIDE)
+                self.case('F', FIELDS.index(name), value // WIDE, value % WIDE)
 
     def show(self, name, at=0, given=None):
         found = getattr(self.record, name)[at] if name in ARRAYS else getattr(self.record, name)
         self.hold(f'{name} {at}', found, given)
-        self.line('V', ARRAYS[name][0] + at if name in ARRAYS else FIELDS.index(name), answer=f'{found:x}')
+        self.case('V', ARRAYS[name][0] + at if name in ARRAYS else FIELDS.index(name), answer=f'{found:x}')
 
     def show_word(self, at, given=None):
         self.hold(f'store {at}', self.store[at], given)
-        self.line('H', at, answer=f'{self.store[at]:08x}')
+        self.case('H', at, answer=f'{self.store[at]:08x}')
 
     def lists(self):
         return self.words[:self.lent[0]], self.store[:self.lent[1]]
@@ -119,29 +121,29 @@ class Script:
         self.number('reset', number, refused.reset(store))
         if number == 0:
             self.record = m.reset(store)
-        self.line('R', answer=f'{number} {self.all()}')
+        self.case('R', answer=f'{number} {self.all()}')
 
-    def clock(self, number, line=0, inp=0, finished=None):
+    def clock(self, number, line_byte=0, inp=0, finished=None):
         program, store = self.lists()
-        self.number('clock', number, refused.clock(program, self.record, store, line))
-        byte, word, done = m.clock(program, self.record, store, line, inp) if number == 0 else (0, 0, 0)
+        self.number('clock', number, refused.clock(program, self.record, store, line_byte))
+        byte, word, done = m.clock(program, self.record, store, line_byte, inp) if number == 0 else (0, 0, 0)
         self.store[:len(store)] = store
         self.hold('finished', done, finished)
-        self.line('K', line, inp, answer=f'{number} {byte:02x} {word:08x} {done} {self.all()}')
+        self.case('K', line_byte, inp, answer=f'{number} {byte:02x} {word:08x} {done} {self.all()}')
 
-    def run(self, number, clocks, more=(0, 0, 0), device=0, line=0, odd=None, at=0, inp=0, finished=None):
+    def run(self, number, clocks, more=(0, 0, 0), device=0, line_byte=0, odd=None, at=0, inp=0, finished=None):
         """A run of so many clocks, with more input words, answer bytes and answer words than that; at one clock the line byte is
         odd. It shows the answer of that clock, and the watch for a device, which is written in at most one clock."""
-        odd, (program, store) = line if odd is None else odd, self.lists()
+        odd, (program, store) = line_byte if odd is None else odd, self.lists()
         inputs, count_bytes, count_words = (clocks + n for n in more)
-        lines = [line] * clocks
+        line_bytes = [line_byte] * clocks
         if at < clocks:
-            lines[at] = odd
+            line_bytes[at] = odd
         answer_bytes, answer_words = [0xA5] * 65537, [0xA5A5A5A5] * 65537
         lent_bytes, lent_words = answer_bytes[:count_bytes], answer_words[:count_words]
-        self.number('run', number, refused.run(program, self.record, store, lines, [inp] * inputs, lent_bytes, lent_words))
+        self.number('run', number, refused.run(program, self.record, store, line_bytes, [inp] * inputs, lent_bytes, lent_words))
         used = done = 0
-        for used, byte in enumerate(lines if number == 0 else [], 1):
+        for used, byte in enumerate(line_bytes if number == 0 else [], 1):
             answer_bytes[used - 1], answer_words[used - 1], last = m.clock(program, self.record, store, byte, inp)
             done += last
         self.store[:len(store)] = store
@@ -149,14 +151,15 @@ class Script:
         lent_bytes, lent_words = answer_bytes[:count_bytes], answer_words[:count_words]
         packed = sum((n + 1) << 4 * i for i, n in enumerate(more)) | device << 12
         shown = f'{number} {used} {done} {self.all()} {of_list(lent_bytes)} {of_list(lent_words)} {sighting(lent_bytes, device)}'
-        self.line('Z', clocks, packed, at << 16 | odd << 8 | line, inp, answer=f'{shown} {answer_bytes[at]:02x} {answer_words[at]:08x}')
+        self.case('Z', clocks, packed, at << 16 | odd << 8 | line_byte, inp,
+                  answer=f'{shown} {answer_bytes[at]:02x} {answer_words[at]:08x}')
 
     def look(self, number, address, given=None):
         program, store = self.lists()
         self.number('look', number, refused.look(program, self.record, store, address))
         found = m.view(self.record, store, address) if number == 0 else 0
         self.hold(f'look {address}', found, given)
-        self.line('O', address, answer=f'{number} {found:08x}')
+        self.case('O', address, answer=f'{number} {found:08x}')
 
     def copy(self, number, length, at=0):
         program, store = self.lists()
@@ -164,17 +167,17 @@ class Script:
         self.number('copy', number, refused.copy(program, self.record, store, buffer[:length]))
         if number == 0:
             buffer[:length] = m.copy(self.record, store)
-        self.line('Y', length, at, answer=f'{number} {of_list(buffer[:length])} {buffer[at]:08x}')
+        self.case('Y', length, at, answer=f'{number} {of_list(buffer[:length])} {buffer[at]:08x}')
 
     def watch(self, number, length, device, byte=0, odd=None, at=0):
         self.number('watch', number, refused.watch(device))
         answers = [byte] * 65537
         answers[at] = byte if odd is None else odd
-        self.line('U', length, device, at << 16 | answers[at] << 8 | byte, answer=sighting(answers[:length], device))
+        self.case('U', length, device, at << 16 | answers[at] << 8 | byte, answer=sighting(answers[:length], device))
 
 
 def sighting(answers, device):
-    """The watch's number and clock; a device that is written in several clocks is no case, the choice among them being free."""
+    """The watch's number and clock; no case has a device that is written in several clocks, because the choice among them is free."""
     if device > 63:
         return '9 none'
     found = [at for at, byte in enumerate(answers) if byte & 2 and byte >> 2 == device]

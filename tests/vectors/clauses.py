@@ -1,4 +1,4 @@
-# Row 5 of the paper's refusals, clause by clause: what it is, the number, the word at PC, and fields of the record.
+# Row 5 of the paper's refusals, clause by clause: ids of the sentences, a name, the number, the word at PC, and fields of the record.
 # Called: imported by tests/vectors/scripts.py; it does nothing when run.
 # Reads: tests/machine/machine.py, for words by their fields. The record is that of a reset with 256 words of store: 32 blocks.
 import sys
@@ -120,7 +120,7 @@ PHASES = [
 # register has the last bit of 3 in bit 31. 7 DIV 0 and 7 DIV -1 hold zeros.
 THREE = {1: 3}
 MUL_5, DIV_2 = imm(m.MUL, 1, 5), imm(m.DIV, 1, 2)
-REGISTERS = [
+IDLE = [
     ('phase 0, product 1', 5, NEVER, dict(product=1)),
     ('phase 0, product 2^32', 5, NEVER, dict(product=WIDE)),
     ('phase 0, remainder 1', 5, NEVER, dict(remainder=1)),
@@ -131,6 +131,9 @@ REGISTERS = [
     ('phase 3, remainder 1', 5, LOADS, dict(status=8, phase=3, remainder=1)),
     ('phase 4, quotient 1', 5, LOADS, dict(phase=4, count=1, quotient=1)),
     ('phase 5, product 1', 5, branch(14, 0), dict(phase=5, product=1)),
+]
+
+MULTIPLIER = [
     ('MUL, 1 step', 0, MUL_5, dict(regs=THREE, phase=1, count=1, product=0x1_8000_0002)),
     ('MUL, 1 step, one more', 5, MUL_5, dict(regs=THREE, phase=1, count=1, product=0x1_8000_0003)),
     ('MUL, 1 step, another high word', 5, MUL_5, dict(regs=THREE, phase=1, count=1, product=0x8000_0002)),
@@ -141,6 +144,9 @@ REGISTERS = [
     ('MUL, 32 steps, one less', 5, MUL_5, dict(regs=THREE, phase=1, count=32, product=14)),
     ('-1 MUL -1, 32 steps', 0, reg(m.MUL, 1, 1), dict(regs={1: ONES}, phase=1, count=32, product=1)),
     ('-1 MUL -1, A without sign', 5, reg(m.MUL, 1, 1), dict(regs={1: ONES}, phase=1, count=32, product=(1 << 64) - ONES)),
+]
+
+DIVIDER = [
     ('DIV, 31 steps', 0, DIV_2, dict(regs=THREE, phase=1, count=31, remainder=1, quotient=LEAST)),
     ('DIV, 31 steps, remainder 0', 5, DIV_2, dict(regs=THREE, phase=1, count=31, quotient=LEAST)),
     ('DIV, 31 steps, quotient 0', 5, DIV_2, dict(regs=THREE, phase=1, count=31, remainder=1)),
@@ -186,4 +192,6 @@ BLOCKS = [
     ('line 0: empty, with old words', 0, NEVER, dict(status=8, words={0: 5, 127: 6})),
 ]
 
-ROWS = [*WIDTHS, *PHASES, *REGISTERS, *COUNTS, *BLOCKS]
+PARTS = [('S3.7 S1.1', WIDTHS), ('S3.7 S2.25 S2.27', PHASES), ('S3.7 S2.15', IDLE), ('S3.7 S2.13 S2.15', MULTIPLIER),
+         ('S3.7 S2.14 S2.15', DIVIDER), ('S3.7 S2.29', COUNTS), ('S3.7 S2.17 S2.21', BLOCKS)]
+ROWS = [(ids, *row) for ids, part in PARTS for row in part]

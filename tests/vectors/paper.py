@@ -1,4 +1,4 @@
-# The paper's sentences on words and arithmetic in Python's unbounded integers: a second reading, sharing nothing with crates/.
+# The paper's sentences on words and arithmetic in Python's unbounded integers; shares nothing with crates/.
 # Called: imported by tests/vectors/make; it does nothing when run.
 # Paper: "What a programmer sees", "Clock by clock" (multiplier and divider), "Where calls are turned down" (3, 10).
 MASK = 2**32 - 1
@@ -36,7 +36,7 @@ def divide(a, b):
 
 
 def operation(op, b, a, carry, overflow):
-    """R.d, H (None where the operation leaves it), N, Z, C, V after an operation; C and V before it are given."""
+    """R.d, H (None if the operation does not change it), N, Z, C, V after an operation, given C and V before it."""
     exact = {2: signed(b) + signed(a), 3: signed(b) - signed(a)}.get(op)
     high = None
     if op == 8:
@@ -68,7 +68,7 @@ def place(at, length):
     return f'device {at - 0xFFC0}' if at >= 0xFFC0 else f'memory {at % length}'
 
 
-# The table of clocks by operation, in its cheapest row.
+# The base charges: the clocks of each operation in its cheapest row of the clock table.
 CHARGES = [1] * 8 + [33, 33, 1, 1, 2, 1, 1, 2]
 
 # Forms: 0 register, 1 literal, 2 MOV H, 3 status, 4 jump, 5 jump and link, 6 RTI, 7 LD, 8 ST, 9 branch, 10 call.

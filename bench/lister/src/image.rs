@@ -1,6 +1,6 @@
-// The image: its records one after another, each checked down the table, then taken apart.
+// The image: its records checked one by one in the table's order, then split into program, data words and runs.
 // Paper: "Images and the listing program", "Where calls are turned down" rows 1, 2, 3 and 6.
-// Nothing is copied but program and data words; the runs are read from the image as they come.
+// Only program and data words are copied; the runs are read from the image one by one.
 pub const LONGEST: usize = 65536;
 pub const STORE: usize = 2048;
 const HEADER: usize = 6;
@@ -8,7 +8,7 @@ const PROGRAM: u16 = 1;
 const DATA: u16 = 2;
 const RUN: u16 = 3;
 
-/// The number of a refusal and the offset of the record that is refused.
+/// The refusal number and the offset of the refused record.
 #[derive(Debug, PartialEq, Eq)]
 pub struct Refusal {
     pub number: u32,
@@ -18,7 +18,7 @@ pub struct Refusal {
 #[derive(Clone, Copy, Debug, PartialEq, Eq)]
 pub struct Run {
     pub count: usize,
-    pub line: u8,
+    pub line_byte: u8,
     pub input: u32,
 }
 
@@ -37,7 +37,7 @@ fn words(payload: &[u8]) -> Vec<u32> {
     payload.chunks_exact(4).map(word).collect()
 }
 
-/// The record at the head of the bytes: its kind and payload, if it is whole.
+/// The record at the start of the bytes: its kind and payload, if it is whole.
 fn head(bytes: &[u8]) -> Option<(u16, &[u8])> {
     let (header, rest) = bytes.split_at_checked(HEADER)?;
     let kind = u16::from_le_bytes([header[4], header[5]]);
@@ -45,7 +45,7 @@ fn head(bytes: &[u8]) -> Option<(u16, &[u8])> {
 }
 
 fn run(payload: &[u8]) -> Run {
-    Run { count: word(payload) as usize, line: payload[4], input: word(&payload[5..]) }
+    Run { count: word(payload) as usize, line_byte: payload[4], input: word(&payload[5..]) }
 }
 
 /// Row 1: length and count.
@@ -86,7 +86,7 @@ impl Image {
         Ok(image)
     }
 
-    /// Takes in the record at the head of the bytes and gives its kind, or the number that it is refused with.
+    /// Reads the record at the start of the bytes; returns its kind, or its refusal number.
     fn take(&mut self, bytes: &[u8], before: u16) -> Result<u16, u32> {
         let (kind, payload) = head(bytes).ok_or(1u32)?;
         if !sized(kind, payload) {

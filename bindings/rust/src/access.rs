@@ -1,13 +1,13 @@
-//! What a clock answers: the access to a device, and the watch over many answers.
+//! The device access that a clock reports, and the watch over many of them.
 //! Paper: "Per clock it writes a byte (bit 0 read, bit 1 write, bits 2-7 device) and the word moved"; the watch.
 //! A device is read or written only in an instruction's last clock.
 use crate::raw;
 use crate::refusal::{accepted, Refusal};
 
-/// The access to a device in one clock.
+/// The device access of one clock.
 #[derive(Clone, Copy, PartialEq, Eq, Hash, Debug)]
 pub enum Access {
-    /// The program read the device, and got the clock's input word.
+    /// The program read the device and got the input word of this clock.
     Read {
         /// 0 to 63.
         device: u8,
@@ -24,8 +24,8 @@ pub enum Access {
 }
 
 impl Access {
-    /// The access that an answer byte shows, with the word that stands beside it. A byte with both bits set, which no run
-    /// writes, shows a write, as for [`watch`].
+    /// The access that an answer byte and its word show. A byte with both bits set, which no run writes, shows a write, as for
+    /// [`watch`].
     ///
     /// ```
     /// use trm::Access;
@@ -43,8 +43,8 @@ impl Access {
     }
 }
 
-/// A clock, from 0, whose answer byte shows the device written, or `None` if there is no such clock. Of several it may be any.
-/// Refused: [`Refusal::Address`], for a device above 63.
+/// A clock, counted from 0, whose answer byte shows a write to the device, or `None` if there is none. If there are several, any of them.
+/// Refused: [`Refusal::Address`] for a device above 63.
 ///
 /// ```
 /// use trm::{watch, Refusal};

@@ -1,6 +1,6 @@
 //! Instructions as text.
 //! Paper: the names of the operations in "What a programmer sees"; those of the conditions are Wirth's.
-//! Of a field outside its width the text shows what it can.
+//! Fields outside their width are printed too, a condition above 15 as `?`.
 use crate::instruction::{Instruction, Operand, Operation};
 use std::fmt::{Display, Formatter, Result as Written};
 
@@ -38,7 +38,7 @@ const CONDITIONS: [&str; 16] =
     ["EQ", "NE", "CS", "CC", "MI", "PL", "VS", "VC", "HI", "LS", "GE", "LT", "GT", "LE", "", "F"];
 
 impl Display for Instruction {
-    /// The notation is told at [`Instruction`].
+    /// The notation is described at [`Instruction`].
     fn fmt(&self, to: &mut Formatter) -> Written {
         match *self {
             Instruction::Arithmetic { operation, d, operand } => write!(to, "{operation} R{d}, {operand}"),
@@ -72,7 +72,7 @@ fn write_access(to: &mut Formatter, name: &str, d: u32, s: u32, offset: u32) -> 
     }
 }
 
-/// A place by its distance from the instruction.
+/// A target address as its distance from the instruction.
 fn write_target(to: &mut Formatter, distance: i64) -> Written {
     match distance {
         0 => write!(to, "."),

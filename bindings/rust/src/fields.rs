@@ -38,7 +38,7 @@ impl From<Instruction> for raw::Instruction {
 impl TryFrom<raw::Instruction> for Instruction {
     type Error = Refusal;
 
-    /// Refused: [`Refusal::Instruction`], for a form or operation above 10, or a field that the form does not have and that is not 0.
+    /// Refused: [`Refusal::Instruction`] for a form or operation above 10, or for a field that the form does not have and that is not 0.
     fn try_from(fields: raw::Instruction) -> Result<Instruction, Refusal> {
         let raw::Instruction { form, operation, condition, d, s, value } = fields;
         let arithmetic = |operand| {

@@ -1,20 +1,20 @@
-//! Images: a program, its first data words and its runs in one piece.
+//! Images: a program, its first data words and its runs in one file.
 //! Paper: "Images and the listing program"; rows 1, 2, 3, 4 and 6 of the refusals.
-//! An image is checked whole by the library before it is taken apart here.
-use crate::lines::Lines;
+//! The library checks the whole image before this module splits it into its parts.
+use crate::line_byte::LineByte;
 use crate::machine::Machine;
 use crate::raw;
 use crate::refusal::{accepted, ImageFault, Refusal};
 
-/// Whether an image can be run with a store of so many words; its first fault if not. Refused: [`Refusal::Image`],
+/// Checks whether an image can be run with a store of `store_words` words; returns its first fault if not. Refused: [`Refusal::Image`],
 /// [`Refusal::Kind`], [`Refusal::Program`], [`Refusal::Store`], [`Refusal::Lines`].
 pub fn check(image: &[u8], store_words: usize) -> Result<(), ImageFault> {
     let answer = raw::image_check(image, store_words);
     accepted(answer.number).map_err(|refusal| ImageFault { refusal, at: answer.at })
 }
 
-/// The payload of the record that begins at byte `at`, as a part of the image itself. Refused: [`Refusal::Image`] for an image that is too
-/// long and for a record cut short, [`Refusal::Kind`] where no record of the image begins.
+/// The payload of the record that begins at offset `at`, as a slice of the image. Refused: [`Refusal::Image`] if the image is too long or
+/// the record is cut short, [`Refusal::Kind`] if no record of the image begins there.
 ///
 /// ```
 /// use trm::image::payload;
@@ -31,13 +31,13 @@ pub fn payload(image: &[u8], at: usize) -> Result<&[u8], Refusal> {
     Ok(&image[part.start as usize..][..part.length as usize])
 }
 
-/// One run of an image: so many clocks, each with the same lines and input word.
+/// One run of an image: `count` clocks, all with the same line byte and input word.
 #[derive(Clone, Copy, PartialEq, Eq, Hash, Debug)]
 pub struct Run {
     /// 1 to 65,536.
     pub count: u32,
-    /// The lines of every clock.
-    pub lines: Lines,
+    /// The line byte of every clock.
+    pub line_byte: LineByte,
     /// The input word of every clock.
     pub input: u32,
 }
@@ -46,11 +46,11 @@ impl Run {
     /// The line bytes and input words, as [`Machine::run`] takes them.
     pub fn feed(&self) -> (Vec<u8>, Vec<u32>) {
         let count = self.count as usize;
-        (vec![self.lines.byte(); count], vec![self.input; count])
+        (vec![self.line_byte.byte(); count], vec![self.input; count])
     }
 }
 
-/// An image that was accepted, taken apart.
+/// An accepted image, split into its parts.
 ///
 /// ```
 /// use trm::image::Image;
@@ -63,8 +63,8 @@ impl Run {
 /// let image = Image::read(&bytes, 2048)?;
 /// let mut machine = image.machine();
 /// for run in image.runs() {
-///     let (lines, inputs) = run.feed();
-///     machine.run(&lines, &inputs)?;
+///     let (line_bytes, inputs) = run.feed();
+///     machine.run(&line_bytes, &inputs)?;
 /// }
 /// assert_eq!(machine.counts().to_string(), "40 held 0 refills 0 writebacks 0");
 /// # Ok::<(), Box<dyn std::error::Error>>(())
@@ -78,7 +78,7 @@ pub struct Image {
 }
 
 impl Image {
-    /// Checks an image for a store of so many words, as [`check`] does, and takes it apart.
+    /// Checks an image for a store of `store_words` words, as [`check`] does, and splits it into its parts.
     pub fn read(image: &[u8], store_words: usize) -> Result<Image, ImageFault> {
         check(image, store_words)?;
         let mut read = Image { program: vec![], data: vec![], runs: vec![], store_words };
@@ -126,7 +126,7 @@ fn records(image: &[u8]) -> impl Iterator<Item = (u32, &[u8])> {
     })
 }
 
-/// A number in little-endian bytes, four at most.
+/// A number from little-endian bytes, at most four.
 fn number(bytes: &[u8]) -> u32 {
     bytes.iter().rev().fold(0, |number, &byte| number << 8 | u32::from(byte))
 }
@@ -137,6 +137,6 @@ fn words(payload: &[u8]) -> Vec<u32> {
 
 /// The payload of kind 3: count, line byte, input word.
 fn run(payload: &[u8]) -> Run {
-    let lines = Lines::try_from(payload[4]).expect("the check accepted the line byte");
-    Run { count: number(&payload[..4]), lines, input: number(&payload[5..]) }
+    let line_byte = LineByte::try_from(payload[4]).expect("the check accepted the line byte");
+    Run { count: number(&payload[..4]), line_byte, input: number(&payload[5..]) }
 }

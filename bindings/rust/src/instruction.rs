@@ -1,6 +1,6 @@
-//! Instructions as values, and the calls that make them of words and words of them.
+//! Instructions as values, and the calls that decode words and encode instructions.
 //! Paper: "What a programmer sees", the format of each operation; rows 3 and 10 of the refusals.
-//! Every field is as it stands in the word, in a type that is wider; encode tests each.
+//! Every field is a u32 with the number that the word holds; encode checks its width.
 use crate::raw;
 use crate::refusal::{accepted, Refusal};
 
@@ -52,7 +52,7 @@ impl Operation {
         self as u32
     }
 
-    /// The operation of a number; none above 10.
+    /// The operation of this number; none above 10.
     pub fn from_number(number: u32) -> Option<Operation> {
         Operation::ALL.into_iter().find(|operation| operation.number() == number)
     }
@@ -63,7 +63,7 @@ impl Operation {
 pub enum Operand {
     /// R.s, 0 to 7.
     Register(u32),
-    /// The literal without sign, 0 to 1,023.
+    /// The literal, unsigned, 0 to 1,023.
     Literal(u32),
 }
 
@@ -85,7 +85,7 @@ pub enum Operand {
 pub enum Instruction {
     /// Operations 0-10: R.d := R.d operation A.
     Arithmetic {
-        /// Which of them.
+        /// The operation.
         operation: Operation,
         /// The destination, and the operand B.
         d: u32,
@@ -142,7 +142,7 @@ pub enum Instruction {
         /// 0 to 15: Z; not Z; C; not C; N; not N; V; not V; C and not Z; its opposite; N = V; N other than V; N = V and not Z;
         /// its opposite; always; never.
         condition: u32,
-        /// Its ten bits, 0 to 1,023, which the machine reads as signed.
+        /// The ten bits of the offset, 0 to 1,023, which the machine reads as signed.
         offset: u32,
     },
     /// R7 := PC + 1, PC := PC + 1 + offset.
@@ -152,7 +152,7 @@ pub enum Instruction {
     },
 }
 
-/// The instruction that a word stands for. Refused: [`Refusal::Program`], for a word above 3FFFFH.
+/// Decodes a word. Refused: [`Refusal::Program`] for a word above 3FFFFH.
 pub fn decode(word: u32) -> Result<Instruction, Refusal> {
     let answer = raw::decode(word);
     accepted(answer.number)?;
@@ -160,7 +160,7 @@ pub fn decode(word: u32) -> Result<Instruction, Refusal> {
 }
 
 impl Instruction {
-    /// The word, its unused bits zero. Refused: [`Refusal::Instruction`], for a field outside its width.
+    /// Encodes the instruction, with its unused bits zero. Refused: [`Refusal::Instruction`] for a field outside its width.
     pub fn encode(self) -> Result<u32, Refusal> {
         let answer = raw::encode(self.into());
         accepted(answer.number)?;

@@ -1,6 +1,6 @@
 //! A clock-accurate simulator of Wirth's Tiny Register Machine (TRM), over the proved library `libtrm.a`.
-//! "The paper" in these pages is the specification that the library is proved to meet; the repository's README says more of it.
-//! Every call ends with a result or a numbered [`Refusal`], and a refused call changes nothing.
+//! "The paper" in these pages is the specification that the library is proved to meet; see the repository's README.
+//! Every call returns a result or a numbered [`Refusal`]; a refused call changes nothing.
 //!
 //! # Quick start
 //!
@@ -18,15 +18,15 @@
 //! # Ok::<(), trm::Refusal>(())
 //! ```
 //!
-//! Clock by clock, with what the program does to devices:
+//! Clock by clock, with the device accesses of the program:
 //!
 //! ```
-//! use trm::{Lines, Machine, Phase};
+//! use trm::{LineByte, Machine, Phase};
 //!
 //! let mut machine = Machine::new(vec![0x00005, 0x20003, 0x3BBFF], vec![0; 2048])?;
-//! assert!(machine.clock(Lines::NONE, 0)?.finished); // MOV
-//! machine.clock(Lines::NONE, 0)?; // the first of MUL's 32 steps
-//! machine.clock(Lines::STALL, 0)?; // held: it counts and does nothing else
+//! assert!(machine.clock(LineByte::NONE, 0)?.finished); // MOV
+//! machine.clock(LineByte::NONE, 0)?; // the first of MUL's 32 steps
+//! machine.clock(LineByte::STALL, 0)?; // held: it counts and does nothing else
 //! assert_eq!(machine.phase(), Phase::Arithmetic { done: 1 });
 //! assert_eq!((machine.counts().clocks, machine.counts().held), (3, 1));
 //! # Ok::<(), trm::Refusal>(())
@@ -37,7 +37,7 @@
 //! | | |
 //! |---|---|
 //! | [`Machine`] | a machine with its program and store: clocks, runs, looks at memory, what a programmer sees |
-//! | [`Lines`], [`Access`], [`watch`] | what goes into a clock beside the input word; what comes out; a write to a device in a run |
+//! | [`Lines`], [`Access`], [`watch`] | a clock's line byte; its device access; a write to a device in a run |
 //! | [`decode`], [`Instruction`] | words and instructions, also as text |
 //! | [`image`] | images, as the listing program `trmlist` reads them |
 //! | [`Refusal`], [`ImageFault`] | why a call was refused |
@@ -50,7 +50,7 @@ mod assembly;
 mod fields;
 pub mod image;
 mod instruction;
-mod lines;
+mod line_byte;
 mod machine;
 pub mod raw;
 mod refusal;
@@ -58,7 +58,7 @@ mod state;
 
 pub use access::{watch, Access};
 pub use instruction::{decode, Instruction, Operand, Operation};
-pub use lines::Lines;
+pub use line_byte::LineByte;
 pub use machine::{Clocked, Machine, Ran, Totals};
 pub use refusal::{ImageFault, Refusal};
 pub use state::{Counts, Flags, Phase, Status};

@@ -2,7 +2,7 @@
 //! Paper: "Clock by clock"; "Where calls are turned down".
 //! Its record is always one that the library accepts with its program and store; a refused call changes nothing.
 use crate::access::Access;
-use crate::lines::Lines;
+use crate::line_byte::LineByte;
 use crate::raw;
 use crate::refusal::{accepted, Refusal};
 use crate::state::{Counts, Flags, Phase, Status};
@@ -12,14 +12,14 @@ use std::fmt::{Display, Formatter, Result as Written};
 /// A Tiny Register Machine with its program and its data memory.
 ///
 /// ```
-/// use trm::{Access, Lines, Machine};
+/// use trm::{Access, LineByte, Machine};
 ///
 /// // NOT R1, 63 makes FFFFFFC0H, device 0 of addresses of 16 bits; LD R0, [R1+5]; ST R0, [R1+7]; B .
 /// let mut machine = Machine::new(vec![0x0483F, 0x30029, 0x34039, 0x3BBFF], vec![0; 64])?;
-/// assert!(machine.clock(Lines::NONE, 11)?.finished);
-/// assert!(!machine.clock(Lines::NONE, 22)?.finished); // a load takes two clocks
-/// assert_eq!(machine.clock(Lines::NONE, 33)?.access, Some(Access::Read { device: 5, word: 33 }));
-/// assert_eq!(machine.clock(Lines::NONE, 44)?.access, Some(Access::Write { device: 7, word: 33 }));
+/// assert!(machine.clock(LineByte::NONE, 11)?.finished);
+/// assert!(!machine.clock(LineByte::NONE, 22)?.finished); // a load takes two clocks
+/// assert_eq!(machine.clock(LineByte::NONE, 33)?.access, Some(Access::Read { device: 5, word: 33 }));
+/// assert_eq!(machine.clock(LineByte::NONE, 44)?.access, Some(Access::Write { device: 7, word: 33 }));
 /// assert_eq!((machine.pc(), machine.registers()[0]), (3, 33));
 /// # Ok::<(), trm::Refusal>(())
 /// ```
@@ -33,34 +33,34 @@ pub struct Machine {
 /// What one clock did.
 #[derive(Clone, Copy, PartialEq, Eq, Hash, Debug)]
 pub struct Clocked {
-    /// The access to a device, if there was one.
+    /// The device access, if there was one.
     pub access: Option<Access>,
     /// Whether the clock finished an instruction.
     pub finished: bool,
 }
 
-/// What a run adds up to.
+/// The totals of a run.
 #[derive(Clone, Copy, PartialEq, Eq, Hash, Debug)]
 pub struct Totals {
     /// Clocks: the number of line bytes.
     pub used: u64,
-    /// Instructions finished, those begun before the run included.
+    /// Instructions finished, including one that was begun before the run.
     pub finished: u64,
 }
 
-/// What a run did: its totals, and for each clock an answer byte and the word moved.
+/// What a run did: its totals, and for each clock the answer byte and the word read or written.
 #[derive(Clone, PartialEq, Eq, Hash, Debug)]
 pub struct Ran {
     /// Clocks and instructions.
     pub totals: Totals,
-    /// Per clock bit 0 read, bit 1 write, bits 2-7 the device; 0 without an access. [`watch`](crate::watch) takes them.
+    /// For each clock: bit 0 read, bit 1 write, bits 2-7 the device; 0 without an access. [`watch`](crate::watch) takes them.
     pub bytes: Vec<u8>,
-    /// Per clock the word moved; 0 without an access.
+    /// For each clock the word read or written; 0 without an access.
     pub words: Vec<u32>,
 }
 
 impl Ran {
-    /// The accesses to devices, each with its clock, from 0.
+    /// The device accesses, each with its clock, counted from 0.
     pub fn accesses(&self) -> impl Iterator<Item = (usize, Access)> + '_ {
         let answers = self.bytes.iter().zip(&self.words).enumerate();
         answers.filter_map(|(clock, (&byte, &word))| Some((clock, Access::from_answer(byte, word)?)))
@@ -68,13 +68,13 @@ impl Ran {
 }
 
 impl Machine {
-    /// A machine after reset: everything zero, the cache empty, the store as it is given.
+    /// A machine after reset: every register and count zero, the cache empty, the store as given.
     /// Refused: [`Refusal::Program`], [`Refusal::Store`].
     pub fn new(program: Vec<u32>, store: Vec<u32>) -> Result<Machine, Refusal> {
         Machine::from_parts(raw::reset(&store).machine, program, store)
     }
 
-    /// A machine that goes on from a record. Refused: [`Refusal::Program`], [`Refusal::Store`], [`Refusal::Record`].
+    /// A machine that continues from a record. Refused: [`Refusal::Program`], [`Refusal::Store`], [`Refusal::Record`].
     ///
     /// ```
     /// use trm::{Machine, Refusal};
@@ -90,7 +90,7 @@ impl Machine {
     /// # Ok::<(), Refusal>(())
     /// ```
     pub fn from_parts(record: raw::Machine, program: Vec<u32>, mut store: Vec<u32>) -> Result<Machine, Refusal> {
-        // A run of no clock judges the program, the store and the record, and moves nothing.
+        // A run of 0 clocks checks the program, the store and the record, and changes nothing.
         let judged = raw::run(&record, &program, &mut store, &[], &[], &mut [], &mut []);
         accepted(judged.number)?;
         Ok(Machine { record, program, store })
@@ -101,19 +101,19 @@ impl Machine {
         (self.record, self.program, self.store)
     }
 
-    /// Everything zero again and the cache empty. The store keeps its contents; what only the cache held is lost.
+    /// Resets the machine: every register and count zero, the cache empty. The store keeps its contents; what only the cache held is lost.
     pub fn reset(&mut self) {
         self.record = raw::reset(&self.store).machine;
     }
 
-    /// One clock. Refused: [`Refusal::Clocks`].
-    pub fn clock(&mut self, lines: Lines, input: u32) -> Result<Clocked, Refusal> {
-        let answer = raw::clock(&mut self.record, &self.program, &mut self.store, lines.byte(), input);
+    /// Runs one clock. Refused: [`Refusal::Clocks`].
+    pub fn clock(&mut self, line_byte: LineByte, input: u32) -> Result<Clocked, Refusal> {
+        let answer = raw::clock(&mut self.record, &self.program, &mut self.store, line_byte.byte(), input);
         accepted(answer.number)?;
         Ok(Clocked { access: Access::from_answer(answer.byte, answer.word), finished: answer.finished == 1 })
     }
 
-    /// One clock for each line byte, with the input word of the same place; at most 65,536.
+    /// Runs one clock for each line byte, with the input word of the same index; at most 65,536.
     /// Refused: [`Refusal::Lines`], [`Refusal::Clocks`].
     ///
     /// ```
@@ -127,36 +127,36 @@ impl Machine {
     /// assert_eq!(watch(&ran.bytes, 7), Ok(Some(3)));
     /// # Ok::<(), trm::Refusal>(())
     /// ```
-    pub fn run(&mut self, lines: &[u8], inputs: &[u32]) -> Result<Ran, Refusal> {
-        let (mut bytes, mut words) = (vec![0; lines.len()], vec![0; lines.len()]);
-        let totals = self.run_into(lines, inputs, &mut bytes, &mut words)?;
+    pub fn run(&mut self, line_bytes: &[u8], inputs: &[u32]) -> Result<Ran, Refusal> {
+        let (mut bytes, mut words) = (vec![0; line_bytes.len()], vec![0; line_bytes.len()]);
+        let totals = self.run_into(line_bytes, inputs, &mut bytes, &mut words)?;
         Ok(Ran { totals, bytes, words })
     }
 
-    /// The same run, its answer bytes and words written to buffers that are as long as the run.
-    /// Refused: [`Refusal::Lines`], [`Refusal::Buffers`], [`Refusal::Clocks`]; the buffers are then as they were.
+    /// Runs like [`Machine::run`], but writes the answer bytes and words to buffers as long as the run.
+    /// Refused: [`Refusal::Lines`], [`Refusal::Buffers`], [`Refusal::Clocks`]; the buffers are then unchanged.
     pub fn run_into(
         &mut self,
-        lines: &[u8],
+        line_bytes: &[u8],
         inputs: &[u32],
         bytes: &mut [u8],
         words: &mut [u32],
     ) -> Result<Totals, Refusal> {
-        let answer = raw::run(&self.record, &self.program, &mut self.store, lines, inputs, bytes, words);
+        let answer = raw::run(&self.record, &self.program, &mut self.store, line_bytes, inputs, bytes, words);
         accepted(answer.number)?;
         self.record = answer.machine;
         Ok(Totals { used: answer.used, finished: answer.finished })
     }
 
-    /// One word of data memory as a program sees it, the cache before the store. The address is taken mod the store's length.
-    /// Refused: [`Refusal::Address`], for an address above FFBFH.
+    /// One word of data memory as a program sees it, through the cache. The address is taken modulo the store's length.
+    /// Refused: [`Refusal::Address`] for an address above FFBFH.
     pub fn look(&self, address: u32) -> Result<u32, Refusal> {
         let answer = raw::look(&self.record, &self.program, &self.store, address);
         accepted(answer.number)?;
         Ok(answer.word)
     }
 
-    /// All of data memory as a program sees it, the cache before the store.
+    /// All of data memory as a program sees it, through the cache.
     pub fn memory(&self) -> Vec<u32> {
         let mut words = vec![0; self.store.len()];
         let number = raw::copy(&self.record, &self.program, &self.store, &mut words);
@@ -177,7 +177,7 @@ impl Machine {
         Some(self.record.regs[8 * bank + number])
     }
 
-    /// The registers of the bank in use, which is that of the mode.
+    /// The registers of the current bank, which the mode selects.
     pub fn registers(&self) -> [u32; 8] {
         self.bank(self.status().mode.into())
     }
@@ -201,12 +201,12 @@ impl Machine {
         Status::of(&self.record)
     }
 
-    /// Where the machine stands within an instruction.
+    /// The phase of the current instruction.
     pub fn phase(&self) -> Phase {
         Phase::of(&self.record)
     }
 
-    /// Whether an instruction is begun and not finished.
+    /// Whether an instruction has begun and not finished.
     pub fn in_flight(&self) -> bool {
         self.phase() != Phase::Ready
     }
@@ -221,7 +221,7 @@ impl Machine {
         &self.record
     }
 
-    /// The program's words; those beyond them are branch never.
+    /// The program's words; addresses past them read as branch never.
     pub fn program(&self) -> &[u32] {
         &self.program
     }
@@ -233,7 +233,7 @@ impl Machine {
 }
 
 impl Display for Machine {
-    /// What a programmer sees, the phase and the counts, in four lines.
+    /// What a programmer sees, the phase and the counts, as four lines of text.
     fn fmt(&self, to: &mut Formatter) -> Written {
         writeln!(to, "PC {:03X}, H {:08X}, flags {}, {}", self.pc(), self.h(), self.flags(), self.status())?;
         for bank in 0..2 {

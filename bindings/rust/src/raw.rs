@@ -1,6 +1,6 @@
-//! The C interface, `include/trm.h`: its structures field by field, its functions, and a safe function over slices for each.
+//! The C interface, `include/trm.h`: its structs field by field, its functions, and a safe function over slices for each.
 //! Paper: the record and the calls of "Clock by clock"; the numbers of "Where calls are turned down"; images.
-//! In every answer `number` is 0 for an accepted call or the number of a [`Refusal`](crate::Refusal). Unsafe code is here only.
+//! In every answer `number` is 0 for an accepted call or the number of a [`Refusal`](crate::Refusal). All unsafe code is in this module.
 #![allow(unsafe_code)]
 
 /// The version of the record and of this interface that this package is written for; see [`record_version`].
@@ -41,15 +41,15 @@ pub const FORM_BRANCH: u32 = 9;
 /// Form: `value` is the offset, 0 to 4,095.
 pub const FORM_CALL: u32 = 10;
 
-/// `trm_machine`: the machine record. Any bytes are one; a call judges it and refuses with 5 what breaks its rule.
+/// `trm_machine`: the machine record. It may hold any bytes; a call checks it and refuses an illegal record with 5.
 #[repr(C)]
 #[derive(Clone, Copy, PartialEq, Eq, Debug)]
 pub struct Machine {
-    /// Bit 0 enables interrupt 0, 1 interrupt 1, 2 is the mode and selects the bank, 3 is cache on.
+    /// Bit 0: interrupt 0 enabled; 1: interrupt 1 enabled; 2: mode, selects the register bank; 3: cache on.
     pub status: u64,
     /// The program counter, 0 to 4,095.
     pub pc: u64,
-    /// Flag N, 0 or 1 as all flags.
+    /// Flag N, 0 or 1 like all flags.
     pub n: u64,
     /// Flag Z.
     pub z: u64,
@@ -59,7 +59,7 @@ pub struct Machine {
     pub v: u64,
     /// 0 ready, 1 arithmetic, 2 write-back, 3 refill, 4 uncached wait, 5 last clock due.
     pub phase: u64,
-    /// Clocks of the phase done.
+    /// Clocks of this phase that are done.
     pub count: u64,
     /// The multiplier's register.
     pub product: u64,
@@ -73,7 +73,7 @@ pub struct Machine {
     pub size: u32,
     /// Clocks since reset.
     pub clocks: u64,
-    /// Held clocks among them.
+    /// Held clocks, counted in `clocks` too.
     pub held: u64,
     /// Finished refills.
     pub refills: u64,
@@ -87,7 +87,7 @@ pub struct Machine {
     pub dirty: [u8; 16],
     /// The block that each cache line holds.
     pub block: [u16; 16],
-    /// The lines' words, eight to a line.
+    /// The words of the cache lines, eight per line.
     pub words: [u32; 128],
 }
 
@@ -115,7 +115,7 @@ pub struct Instruction {
 #[repr(C)]
 #[derive(Clone, Copy, PartialEq, Eq, Debug)]
 pub struct ResetAnswer {
-    /// The record to begin with; refused, one that every call refuses.
+    /// The record after a reset; if refused, one that every call refuses.
     pub machine: Machine,
     /// The refusal.
     pub number: u32,
@@ -125,7 +125,7 @@ pub struct ResetAnswer {
 #[repr(C)]
 #[derive(Clone, Copy, PartialEq, Eq, Debug)]
 pub struct ClockValueAnswer {
-    /// The record after the clock; refused, as it was given.
+    /// The record after the clock; if refused, unchanged.
     pub machine: Machine,
     /// The refusal.
     pub number: u32,
@@ -155,11 +155,11 @@ pub struct ClockAnswer {
 #[repr(C)]
 #[derive(Clone, Copy, PartialEq, Eq, Debug)]
 pub struct RunAnswer {
-    /// The record after the run; refused, as it was given.
+    /// The record after the run; if refused, unchanged.
     pub machine: Machine,
     /// The refusal.
     pub number: u32,
-    /// Clocks: the number of line bytes.
+    /// Clocks run: the number of line bytes.
     pub used: u64,
     /// Instructions finished.
     pub finished: u64,
@@ -181,9 +181,9 @@ pub struct LookAnswer {
 pub struct WatchAnswer {
     /// The refusal.
     pub number: u32,
-    /// 1 if a clock is named, or 0.
+    /// 1 if there is such a clock, else 0.
     pub found: u32,
-    /// The clock, from 0; 0 if none is named.
+    /// The clock, counted from 0; 0 if there is none.
     pub clock: u64,
 }
 
@@ -191,7 +191,7 @@ pub struct WatchAnswer {
 #[repr(C)]
 #[derive(Clone, Copy, PartialEq, Eq, Debug)]
 pub struct DecodeAnswer {
-    /// The instruction that the word stands for.
+    /// The instruction that the word encodes.
     pub instruction: Instruction,
     /// The refusal.
     pub number: u32,
@@ -213,7 +213,7 @@ pub struct EncodeAnswer {
 pub struct ImageAnswer {
     /// The refusal.
     pub number: u32,
-    /// The byte where the record at fault begins.
+    /// The offset where the record at fault begins.
     pub at: u64,
 }
 
@@ -223,13 +223,13 @@ pub struct ImageAnswer {
 pub struct PartAnswer {
     /// The refusal.
     pub number: u32,
-    /// The byte of the image where the part begins.
+    /// The offset in the image where the payload begins.
     pub start: u64,
-    /// Its bytes.
+    /// Its length in bytes.
     pub length: u64,
 }
 
-// The functions of trm.h; its head says what a caller must guarantee.
+// The functions of trm.h; its head comment says what a caller must guarantee.
 extern "C" {
     /// See [`record_size`].
     pub fn trm_record_size() -> usize;
@@ -244,7 +244,7 @@ extern "C" {
         program_words: usize,
         store: *mut u32,
         store_words: usize,
-        line: u8,
+        line_byte: u8,
         input: u32,
     ) -> ClockAnswer;
     /// See [`clock_value`].
@@ -254,7 +254,7 @@ extern "C" {
         program_words: usize,
         store: *mut u32,
         store_words: usize,
-        line: u8,
+        line_byte: u8,
         input: u32,
     ) -> ClockValueAnswer;
     /// See [`run`].
@@ -264,8 +264,8 @@ extern "C" {
         program_words: usize,
         store: *mut u32,
         store_words: usize,
-        lines: *const u8,
-        lines_length: usize,
+        line_bytes: *const u8,
+        line_bytes_length: usize,
         inputs: *const u32,
         inputs_length: usize,
         bytes: *mut u8,
@@ -304,42 +304,48 @@ extern "C" {
     pub fn trm_image_payload(image: *const u8, image_bytes: usize, at: usize) -> PartAnswer;
 }
 
-// SAFETY, of every call below: a pointer and its length are those of one slice or reference that lives until the call returns, and
-// what may be written comes from a `&mut`, which overlaps nothing. trm.h asks no more of a caller.
+// SAFETY, for every call below: a pointer and its length are those of one slice or reference that lives until the call returns, and
+// what may be written comes from a `&mut`, which overlaps nothing. trm.h requires no more of a caller.
 
-/// The bytes of a record in the library that was linked.
+/// The size of a record in bytes in the linked library.
 pub fn record_size() -> usize {
     unsafe { trm_record_size() }
 }
 
-/// The version of the record in the library that was linked.
+/// The version of the record in the linked library.
 pub fn record_version() -> u32 {
     unsafe { trm_record_version() }
 }
 
-/// A record to begin with, for this store. Refused: 4.
+/// The record after a reset, for this store. Refused with 4 if the store's length is not a power of two from 64 to 32,768.
 pub fn reset(store: &[u32]) -> ResetAnswer {
     unsafe { trm_reset(store.as_ptr(), store.len()) }
 }
 
-/// One clock, the record lent. Refused: 3, 4, 5, 6, 8.
-pub fn clock(machine: &mut Machine, program: &[u32], store: &mut [u32], line: u8, input: u32) -> ClockAnswer {
+/// Runs one clock on a lent record. Refused with 3 (program), 4 (store), 5 (record), 6 (line byte above 7), 8 (clock count).
+pub fn clock(machine: &mut Machine, program: &[u32], store: &mut [u32], line_byte: u8, input: u32) -> ClockAnswer {
     let (words, lent) = (program.len(), store.len());
-    unsafe { trm_clock(machine, program.as_ptr(), words, store.as_mut_ptr(), lent, line, input) }
+    unsafe { trm_clock(machine, program.as_ptr(), words, store.as_mut_ptr(), lent, line_byte, input) }
 }
 
-/// The same clock with the record by value. Refused: 3, 4, 5, 6, 8.
-pub fn clock_value(machine: &Machine, program: &[u32], store: &mut [u32], line: u8, input: u32) -> ClockValueAnswer {
+/// Runs the same clock with the record by value. Refused like [`clock`].
+pub fn clock_value(
+    machine: &Machine,
+    program: &[u32],
+    store: &mut [u32],
+    line_byte: u8,
+    input: u32,
+) -> ClockValueAnswer {
     let (words, lent) = (program.len(), store.len());
-    unsafe { trm_clock_value(*machine, program.as_ptr(), words, store.as_mut_ptr(), lent, line, input) }
+    unsafe { trm_clock_value(*machine, program.as_ptr(), words, store.as_mut_ptr(), lent, line_byte, input) }
 }
 
-/// One clock for each line byte. Refused: 3, 4, 5, 6, 7, 8.
+/// Runs one clock for each line byte. Refused with 3, 4, 5 like [`clock`], 6 (line bytes), 7 (length of an answer buffer), 8 (clock count).
 pub fn run(
     machine: &Machine,
     program: &[u32],
     store: &mut [u32],
-    lines: &[u8],
+    line_bytes: &[u8],
     inputs: &[u32],
     bytes: &mut [u8],
     words: &mut [u32],
@@ -351,8 +357,8 @@ pub fn run(
             program.len(),
             store.as_mut_ptr(),
             store.len(),
-            lines.as_ptr(),
-            lines.len(),
+            line_bytes.as_ptr(),
+            line_bytes.len(),
             inputs.as_ptr(),
             inputs.len(),
             bytes.as_mut_ptr(),
@@ -363,38 +369,38 @@ pub fn run(
     }
 }
 
-/// One word of data memory. Refused: 3, 4, 5, 9.
+/// One word of data memory. Refused with 3, 4, 5 like [`clock`], 9 (an address above FFBFH).
 pub fn look(machine: &Machine, program: &[u32], store: &[u32], address: u32) -> LookAnswer {
     unsafe { trm_look(*machine, program.as_ptr(), program.len(), store.as_ptr(), store.len(), address) }
 }
 
-/// All of data memory, into a buffer as long as the store; gives the number. Refused: 3, 4, 5, 7.
+/// Copies all of data memory to a buffer; returns the number. Refused with 3, 4, 5 like [`clock`], 7 (not as long as the store).
 pub fn copy(machine: &Machine, program: &[u32], store: &[u32], buffer: &mut [u32]) -> u32 {
     let (words, lent, wanted) = (program.len(), store.len(), buffer.len());
     unsafe { trm_copy(*machine, program.as_ptr(), words, store.as_ptr(), lent, buffer.as_mut_ptr(), wanted) }
 }
 
-/// A clock whose answer byte shows the device written. Refused: 9.
+/// A clock whose answer byte shows a write to the device. Refused with 9 (a device above 63).
 pub fn watch(bytes: &[u8], device: u32) -> WatchAnswer {
     unsafe { trm_watch(bytes.as_ptr(), bytes.len(), device) }
 }
 
-/// The instruction that a word stands for. Refused: 3.
+/// Decodes a word. Refused with 3 (a word above 3FFFFH).
 pub fn decode(word: u32) -> DecodeAnswer {
     unsafe { trm_decode(word) }
 }
 
-/// The word of an instruction. Refused: 10.
+/// Encodes an instruction. Refused with 10 (a field outside its width).
 pub fn encode(instruction: Instruction) -> EncodeAnswer {
     unsafe { trm_encode(instruction) }
 }
 
-/// Whether an image can be run with a store of so many words. Refused: 1, 2, 3, 4, 6.
+/// Checks whether an image can be run with a store of `store_words` words. Refused with 1, 2, 3, 4 or 6, by its first fault.
 pub fn image_check(image: &[u8], store_words: usize) -> ImageAnswer {
     unsafe { trm_image_check(image.as_ptr(), image.len(), store_words) }
 }
 
-/// The payload of the record that begins at a byte, as a part of the image. Refused: 1, 2.
+/// The payload of the record at offset `at`, by start and length. Refused with 1 (too long, or cut short), 2 (no record begins there).
 pub fn image_payload(image: &[u8], at: usize) -> PartAnswer {
     unsafe { trm_image_payload(image.as_ptr(), image.len(), at) }
 }

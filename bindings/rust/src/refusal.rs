@@ -1,10 +1,10 @@
-//! Refusals: why a call was turned down.
+//! Refusals: why a call was refused.
 //! Paper: "Where calls are turned down"; the number is the row of its table.
 //! A refused call has changed nothing.
 use std::error::Error;
 use std::fmt::{Display, Formatter, Result as Written};
 
-/// Why a call was refused. Checks go down the paper's table, so this is the first row that applies.
+/// Why a call was refused: the first row of the paper's table that applies.
 ///
 /// ```
 /// use trm::{Machine, Refusal};
@@ -16,23 +16,23 @@ use std::fmt::{Display, Formatter, Result as Written};
 /// ```
 #[derive(Clone, Copy, PartialEq, Eq, Hash, Debug)]
 pub enum Refusal {
-    /// An image too long, or a record of it with a wrong length or count.
+    /// An image that is too long, or a record in it with a wrong length or count.
     Image = 1,
-    /// An image whose records are not of the kinds and in the order that they must be.
+    /// An image with a record kind that is unknown, repeated or out of order, or without a program.
     Kind = 2,
     /// A program without a word, too long, or with a word of more than 18 bits.
     Program = 3,
     /// A store of a length that is not legal, or not the one at reset.
     Store = 4,
-    /// A record that breaks its rule.
+    /// A record with a field out of range, or with fields that contradict each other or the word at PC.
     Record = 5,
     /// Line bytes that are too many, not as many as the input words, or above 7.
-    Lines = 6,
-    /// Buffers of another length than what is written to them.
+    LineBytes = 6,
+    /// Buffers that are not as long as what is written to them.
     Buffers = 7,
-    /// A clock count that would pass 32 bits.
+    /// A clock count that would exceed 32 bits.
     Clocks = 8,
-    /// A device where memory is looked at, or no device where one is watched.
+    /// A look at a device address, or a watch of a device above 63.
     Address = 9,
     /// An instruction with a field outside its width.
     Instruction = 10,
@@ -46,7 +46,7 @@ impl Refusal {
         Refusal::Program,
         Refusal::Store,
         Refusal::Record,
-        Refusal::Lines,
+        Refusal::LineBytes,
         Refusal::Buffers,
         Refusal::Clocks,
         Refusal::Address,
@@ -58,7 +58,7 @@ impl Refusal {
         self as u32
     }
 
-    /// The refusal of a number; none for 0, which is no refusal, and for numbers above 10.
+    /// The refusal of this number; none for 0, which means accepted, and for numbers above 10.
     pub fn from_number(number: u32) -> Option<Refusal> {
         Refusal::ALL.into_iter().find(|refusal| refusal.number() == number)
     }
@@ -73,7 +73,7 @@ impl Refusal {
             Refusal::Program => "the program has no word, over 4,096, or one above 3FFFFH",
             Refusal::Store => "the store's length is no power of two from 64 to 32,768, or other than at reset",
             Refusal::Record => "the machine record breaks its rule",
-            Refusal::Lines => "line bytes are not as many as input words, over 65,536, or one is above 7",
+            Refusal::LineBytes => "line bytes are not as many as input words, over 65,536, or one is above 7",
             Refusal::Buffers => "a buffer is not as long as the run, or as the store for a copy",
             Refusal::Clocks => "the clock count would pass 4,294,967,295",
             Refusal::Address => "the address looked at is above FFBFH, or the device above 63",
@@ -83,7 +83,7 @@ impl Refusal {
 }
 
 impl Display for Refusal {
-    /// The number and the row's condition.
+    /// The number and the condition of its row.
     fn fmt(&self, to: &mut Formatter) -> Written {
         write!(to, "refused with {}: {}", self.number(), self.condition())
     }
@@ -91,7 +91,7 @@ impl Display for Refusal {
 
 impl Error for Refusal {}
 
-/// What a call's number says: nothing for 0, or the refusal.
+/// The result for a call's number: `Ok` for 0, else the refusal.
 pub(crate) fn accepted(number: u32) -> Result<(), Refusal> {
     match number {
         0 => Ok(()),
@@ -99,7 +99,7 @@ pub(crate) fn accepted(number: u32) -> Result<(), Refusal> {
     }
 }
 
-/// Why an image was refused, and the byte where the record at fault begins (0 if the image is too long or empty).
+/// Why an image was refused, and the offset where the record at fault begins (0 if the image is too long or empty).
 ///
 /// ```
 /// use trm::{image, Refusal};
@@ -112,12 +112,12 @@ pub(crate) fn accepted(number: u32) -> Result<(), Refusal> {
 pub struct ImageFault {
     /// The row of the table.
     pub refusal: Refusal,
-    /// The record's first byte, counted from the image's.
+    /// The offset of the record in the image.
     pub at: u64,
 }
 
 impl Display for ImageFault {
-    /// The line that the listing program prints.
+    /// The row that the listing program prints.
     fn fmt(&self, to: &mut Formatter) -> Written {
         write!(to, "refused {} {}", self.refusal.number(), self.at)
     }

@@ -1,4 +1,4 @@
-//! What the record of a machine says, in types of their own: flags, status, phase and counts.
+//! Parts of a machine's record as Rust types: flags, status, phase and counts.
 //! Paper: "What a programmer sees"; "The record holds phase and count".
 //! Each is read from an accepted record, whose fields are within their widths.
 use crate::raw;
@@ -24,7 +24,7 @@ impl Flags {
 }
 
 impl Display for Flags {
-    /// The letters of the flags that are set, `-` for each other: `N-C-`.
+    /// The letters of the flags that are set, `-` for each of the others: `N-C-`.
     fn fmt(&self, to: &mut Formatter) -> Written {
         for (flag, letter) in [(self.n, "N"), (self.z, "Z"), (self.c, "C"), (self.v, "V")] {
             to.write_str(if flag { letter } else { "-" })?;
@@ -40,7 +40,7 @@ pub struct Status {
     pub enables: [bool; 2],
     /// Bit 2: the mode, 0 or 1. It selects the bank, and in mode 1 no interrupt is taken.
     pub mode: u8,
-    /// Bit 3.
+    /// Bit 3: whether the cache is on.
     pub cache_on: bool,
 }
 
@@ -61,22 +61,22 @@ impl Display for Status {
     }
 }
 
-/// Where the machine stands within an instruction. `done` is the number of clocks of the phase that are done.
+/// The phase of an instruction. `done` is the number of clocks of the phase that are done.
 #[derive(Clone, Copy, PartialEq, Eq, Hash, Debug)]
 pub enum Phase {
     /// No instruction is in flight: the next clock takes an interrupt or begins an instruction.
     Ready,
-    /// MUL or DIV is at work.
+    /// MUL or DIV is being computed.
     Arithmetic {
         /// 1 to 32.
         done: u8,
     },
-    /// A dirty line is written back.
+    /// A dirty cache line is written back.
     WriteBack {
         /// 0 to 9.
         done: u8,
     },
-    /// A line is filled with a block.
+    /// A cache line is filled with a block.
     Refill {
         /// 0 to 9.
         done: u8,
@@ -139,7 +139,7 @@ impl Counts {
 }
 
 impl Display for Counts {
-    /// As the listing's last line has them: `end 40 held 0 refills 0 writebacks 0` without the first word.
+    /// As in the last row of a listing: `end 40 held 0 refills 0 writebacks 0` without the first word.
     fn fmt(&self, to: &mut Formatter) -> Written {
         let Counts { clocks, held, refills, writebacks } = self;
         write!(to, "{clocks} held {held} refills {refills} writebacks {writebacks}")

@@ -1,12 +1,12 @@
-// The two entries for a clock and the run, side by side over some thousand clocks: each must come to the same.
+// The two entries for a clock and the run, side by side over some thousand clocks: each must give the same result.
 // Paper: "Later a second entry lends the record itself for one clock, with the same outcome"; "A run carries out one clock per line byte".
-// The program meets every phase, both interrupts, and devices read and written; the test says so at its end.
+// The program meets every phase, both interrupts, and devices read and written; the test asserts this at its end.
 use trm::Instruction::{Arithmetic, Branch, Call, Jump, Load, ReturnFromInterrupt, SetStatus, Store};
 use trm::{raw, Machine, Operand, Operation};
 
 const CLOCKS: usize = 6000;
 
-/// Cache on and off by turns, two blocks of one line, devices 3 and 4, MUL and DIV, a call.
+/// The cache on and off in turn, two blocks of one cache line, devices 3 and 4, MUL and DIV, a call.
 fn program() -> Vec<u32> {
     let literal = |operation, d, value| Arithmetic { operation, d, operand: Operand::Literal(value) };
     let words = [
@@ -34,8 +34,8 @@ fn program() -> Vec<u32> {
     words.map(|instruction| instruction.encode().unwrap()).to_vec()
 }
 
-/// Mostly low; now and then each line, and all at once.
-fn line(clock: usize) -> u8 {
+/// The line byte of a clock: mostly 0; now and then each line, and all at once.
+fn line_byte(clock: usize) -> u8 {
     match clock % 23 {
         5 => raw::LINE_STALL,
         11 => raw::LINE_INTERRUPT_0,
@@ -58,7 +58,7 @@ struct Met {
 }
 
 #[test]
-fn lent_and_by_value_agree() {
+fn s2_32_lent_and_by_value_agree() {
     let program = program();
     let mut store: Vec<u32> = (0..256).collect();
     let mut lent_store = store.clone();
@@ -66,9 +66,9 @@ fn lent_and_by_value_agree() {
     let mut lent = machine;
     let mut met = Met::default();
     for clock in 0..CLOCKS {
-        let ready = machine.phase == 0 && line(clock) & raw::LINE_STALL == 0;
-        let value = raw::clock_value(&machine, &program, &mut store, line(clock), input(clock));
-        let answer = raw::clock(&mut lent, &program, &mut lent_store, line(clock), input(clock));
+        let ready = machine.phase == 0 && line_byte(clock) & raw::LINE_STALL == 0;
+        let value = raw::clock_value(&machine, &program, &mut store, line_byte(clock), input(clock));
+        let answer = raw::clock(&mut lent, &program, &mut lent_store, line_byte(clock), input(clock));
         assert_eq!(answer.number, 0, "clock {clock}");
         assert_eq!((answer.number, answer.byte), (value.number, value.byte), "clock {clock}");
         assert_eq!((answer.word, answer.finished), (value.word, value.finished), "clock {clock}");
@@ -86,9 +86,9 @@ fn lent_and_by_value_agree() {
     assert!(machine.held > 0 && machine.refills > 0 && machine.writebacks > 0);
 }
 
-/// A clock of any byte above 7 is refused by both entries alike, and nothing moves.
+/// Both entries refuse a line byte above 7 in the same way, and nothing changes.
 #[test]
-fn refused_clocks_agree() {
+fn s3_2_refused_clocks_agree() {
     let (program, mut store) = (program(), vec![1; 256]);
     let mut machine = raw::reset(&store).machine;
     let before = machine;
@@ -103,15 +103,15 @@ fn refused_clocks_agree() {
 }
 
 #[test]
-fn a_run_is_its_clocks() {
+fn s2_33_a_run_is_its_clocks() {
     let mut by_clocks = Machine::new(program(), (0..256).collect()).unwrap();
     let mut by_run = by_clocks.clone();
-    let lines: Vec<u8> = (0..CLOCKS).map(line).collect();
+    let line_bytes: Vec<u8> = (0..CLOCKS).map(line_byte).collect();
     let inputs: Vec<u32> = (0..CLOCKS).map(input).collect();
-    let ran = by_run.run(&lines, &inputs).unwrap();
+    let ran = by_run.run(&line_bytes, &inputs).unwrap();
     let (mut accesses, mut finished) = (vec![], 0);
     for clock in 0..CLOCKS {
-        let clocked = by_clocks.clock(lines[clock].try_into().unwrap(), inputs[clock]).unwrap();
+        let clocked = by_clocks.clock(line_bytes[clock].try_into().unwrap(), inputs[clock]).unwrap();
         accesses.extend(clocked.access.map(|access| (clock, access)));
         finished += u64::from(clocked.finished);
     }

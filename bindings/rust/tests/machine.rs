@@ -1,7 +1,7 @@
-// The machine's calls and what it shows: the paper's example clock by clock, the cache, interrupts, devices, its text.
+// The calls of a machine and what it shows: the paper's example clock by clock, the cache, interrupts, devices, its text.
 // Paper: "Clock by clock", the clock table, the starred cases; every number here is worked out from it by hand.
-// Words stand as numbers: operation * 4000H + d * 800H, then 400H + s or a literal.
-use trm::{watch, Access, Counts, Flags, Lines, Machine, Phase, Status};
+// Words are written as numbers: operation * 4000H + d * 800H, then 400H + s or a literal.
+use trm::{watch, Access, Counts, Flags, LineByte, Machine, Phase, Status};
 
 /// MOV R0, 5; MUL R0, 3; B .
 const EXAMPLE: [u32; 3] = [0x00005, 0x20003, 0x3BBFF];
@@ -10,17 +10,17 @@ fn machine(program: &[u32]) -> Machine {
     Machine::new(program.to_vec(), vec![0; 2048]).unwrap()
 }
 
-/// So many clocks with no line high; the instructions finished.
+/// Runs clocks with line byte 0; returns the instructions finished.
 fn run(machine: &mut Machine, clocks: usize) -> u64 {
     machine.run(&vec![0; clocks], &vec![0; clocks]).unwrap().totals.finished
 }
 
 #[test]
-fn the_example_clock_by_clock() {
+fn s4_11_the_example_clock_by_clock() {
     let mut machine = machine(&EXAMPLE);
     let mut finished = vec![];
     for clock in 1..=40 {
-        if machine.clock(Lines::NONE, 0).unwrap().finished {
+        if machine.clock(LineByte::NONE, 0).unwrap().finished {
             finished.push(clock);
         }
         let phase = match clock {
@@ -35,7 +35,7 @@ fn the_example_clock_by_clock() {
 }
 
 #[test]
-fn the_example_in_runs() {
+fn s2_33_the_example_in_runs() {
     let mut machine = machine(&EXAMPLE);
     assert_eq!(run(&mut machine, 33), 1);
     assert_eq!(machine.registers()[0], 5);
@@ -48,11 +48,11 @@ fn the_example_in_runs() {
 }
 
 #[test]
-fn a_held_clock_counts_and_does_nothing_else() {
+fn s2_2_a_held_clock_counts_and_does_nothing_else() {
     let mut machine = machine(&EXAMPLE);
     run(&mut machine, 10);
     let (mut record, program, store) = machine.clone().into_parts();
-    machine.clock(Lines::STALL | Lines::INTERRUPT_0 | Lines::INTERRUPT_1, 7).unwrap();
+    machine.clock(LineByte::STALL | LineByte::INTERRUPT_0 | LineByte::INTERRUPT_1, 7).unwrap();
     (record.clocks, record.held) = (11, 1);
     assert_eq!(machine, Machine::from_parts(record, program, store).unwrap());
 }
@@ -62,12 +62,12 @@ fn after(word: u32, r0: u32, r1: u32) -> (u32, Flags) {
     let (mut record, program, store) = machine(&[word]).into_parts();
     (record.regs[0], record.regs[1]) = (r0, r1);
     let mut machine = Machine::from_parts(record, program, store).unwrap();
-    assert!(machine.clock(Lines::NONE, 0).unwrap().finished);
+    assert!(machine.clock(LineByte::NONE, 0).unwrap().finished);
     (machine.registers()[0], machine.flags())
 }
 
 #[test]
-fn starred_results_and_flags() {
+fn s5_1_starred_results_and_flags() {
     let (add, sub) = (0x08401, 0x0C401);
     assert_eq!(after(sub, 0, 1), (0xFFFF_FFFF, Flags { n: true, z: false, c: true, v: false }));
     assert_eq!(after(add, 0x7FFF_FFFF, 1), (0x8000_0000, Flags { n: true, z: false, c: false, v: true }));
@@ -78,13 +78,13 @@ fn starred_results_and_flags() {
 
 /// MOV R0, 5; LDPSR 8; ST R0, [0]; LD R1, [128]: the starred case of 12 and 22 clocks.
 #[test]
-fn a_store_miss_and_a_dirty_miss() {
+fn s5_12_a_store_miss_and_a_dirty_miss() {
     let mut machine = machine(&[0x00005, 0x2C008, 0x34007, 0x30C07]);
     assert_eq!(run(&mut machine, 2), 2);
     assert!(machine.status().cache_on);
     let mut phases = vec![];
     for _ in 0..34 {
-        machine.clock(Lines::NONE, 0).unwrap();
+        machine.clock(LineByte::NONE, 0).unwrap();
         phases.push(machine.phase());
     }
     let write_back = (0..10).map(|done| Phase::WriteBack { done });
@@ -98,9 +98,9 @@ fn a_store_miss_and_a_dirty_miss() {
     assert_eq!((record.full[0], record.dirty[0], record.block[0]), (1, 0, 16));
 }
 
-/// After the store alone the word is in the cache, and the store still has the old one.
+/// After the ST the word is in the cache, and the store still has the old one.
 #[test]
-fn memory_is_seen_through_the_cache() {
+fn s2_35_memory_is_seen_through_the_cache() {
     let mut machine = machine(&[0x00005, 0x2C008, 0x34007, 0x30C07]);
     assert_eq!(run(&mut machine, 14), 3);
     assert_eq!((machine.store()[0], machine.look(0), machine.look(2048)), (0, Ok(5), Ok(5)));
@@ -113,19 +113,19 @@ fn memory_is_seen_through_the_cache() {
 
 /// LD R0, [0] with the cache off: 6 clocks.
 #[test]
-fn a_load_past_the_cache() {
+fn s2_11_a_load_past_the_cache() {
     let mut machine = Machine::new(vec![0x30007], vec![9; 64]).unwrap();
     for done in 1..=5 {
-        assert!(!machine.clock(Lines::NONE, 0).unwrap().finished);
+        assert!(!machine.clock(LineByte::NONE, 0).unwrap().finished);
         assert_eq!(machine.phase(), Phase::UncachedWait { done });
     }
-    assert!(machine.clock(Lines::NONE, 0).unwrap().finished);
+    assert!(machine.clock(LineByte::NONE, 0).unwrap().finished);
     assert_eq!((machine.registers()[0], machine.program(), machine.store()), (9, &[0x30007][..], &[9; 64][..]));
 }
 
 /// MOV R0, 5; then MUL R0, 3 or DIV R0, 3: the registers after one step and after the last.
 #[test]
-fn the_multiplier_and_the_divider_step_by_step() {
+fn s2_13_the_multiplier_and_the_divider_step_by_step() {
     let registers = |word, clocks| {
         let mut machine = machine(&[0x00005, word]);
         run(&mut machine, clocks);
@@ -140,7 +140,7 @@ fn the_multiplier_and_the_divider_step_by_step() {
 
 /// LDPSR with each of its sixteen values.
 #[test]
-fn every_status() {
+fn s1_20_every_status() {
     for bits in 0..16 {
         let mut machine = machine(&[0x2C000 + bits]);
         run(&mut machine, 1);
@@ -154,13 +154,13 @@ fn every_status() {
 
 /// LDPSR 3; B .; RTI R7; RTI R7: each interrupt goes to its address, and back to the branch.
 #[test]
-fn interrupts_use_the_second_bank() {
-    for (lines, place) in [(Lines::INTERRUPT_0, 2), (Lines::INTERRUPT_1, 3)] {
+fn s2_3_interrupts_use_the_second_bank() {
+    for (line_byte, place) in [(LineByte::INTERRUPT_0, 2), (LineByte::INTERRUPT_1, 3)] {
         let mut machine = machine(&[0x2C003, 0x3BBFF, 0x2C507, 0x2C507]);
         run(&mut machine, 1);
         let enabled = Status { enables: [true, true], mode: 0, cache_on: false };
         assert_eq!(machine.status(), enabled);
-        let taken = machine.clock(lines, 0).unwrap();
+        let taken = machine.clock(line_byte, 0).unwrap();
         assert_eq!((taken.finished, taken.access), (false, None));
         assert_eq!((machine.pc(), machine.status()), (place, Status { mode: 1, ..enabled }));
         assert_eq!(machine.registers(), [0, 0, 0, 0, 0, 0, 0, 1]);
@@ -171,7 +171,7 @@ fn interrupts_use_the_second_bank() {
 }
 
 #[test]
-fn registers_that_are_not_there() {
+fn s1_1_registers_that_are_not_there() {
     let machine = machine(&EXAMPLE);
     assert_eq!((machine.register(2, 0), machine.register(0, 8)), (None, None));
     assert_eq!(machine.register(usize::MAX, usize::MAX), None);
@@ -179,7 +179,7 @@ fn registers_that_are_not_there() {
 
 /// NOT R1, 63; LD R0, [R1+5]; ST R0, [R1+7]: devices 5 and 7.
 #[test]
-fn devices_in_a_run() {
+fn s2_34_devices_in_a_run() {
     let mut machine = machine(&[0x0483F, 0x30029, 0x34039]);
     let ran = machine.run(&[0; 4], &[11, 22, 33, 44]).unwrap();
     assert_eq!((ran.totals.used, ran.totals.finished), (4, 3));

@@ -1,6 +1,6 @@
-// The C interface as it is linked: size and version, empty slices, null pointers, and what encode refuses.
+// The C interface as linked: size and version, empty slices, null pointers, and what encode refuses.
 // Paper: "Where calls are turned down"; row 10, "a field outside its width".
-// trm.h lets a pointer with the length 0 be null.
+// By trm.h a pointer with the length 0 may be null.
 use std::ptr::{null, null_mut};
 use trm::raw::{self, Instruction};
 
@@ -11,7 +11,7 @@ fn the_library_has_the_record_of_this_package() {
 }
 
 #[test]
-fn empty_slices_are_judged_by_their_length() {
+fn s3_1_empty_slices_are_judged_by_their_length() {
     let mut store = vec![7; 64];
     let mut machine = raw::reset(&store).machine;
     let before = machine;
@@ -33,7 +33,7 @@ fn empty_slices_are_judged_by_their_length() {
 }
 
 #[test]
-fn null_pointers_of_length_0_are_not_looked_at() {
+fn s3_1_null_pointers_of_length_0_are_not_looked_at() {
     let (program, mut store) = ([0], [7; 64]);
     let (p, s) = (program.as_ptr(), store.as_mut_ptr());
     unsafe {
@@ -57,7 +57,7 @@ fn null_pointers_of_length_0_are_not_looked_at() {
     assert_eq!(store, [7; 64]);
 }
 
-/// The fields that a form has, in the order operation, condition, d, s, value, each with its greatest number; 0 for one that it has not.
+/// The fields of each form, in the order operation, condition, d, s, value, each with its greatest value; 0 for one that it does not have.
 const WIDTHS: [(u32, [u32; 5]); 11] = [
     (raw::FORM_REGISTER, [10, 0, 7, 7, 0]),
     (raw::FORM_LITERAL, [10, 0, 7, 0, 1023]),
@@ -77,7 +77,7 @@ fn instruction(form: u32, [operation, condition, d, s, value]: [u32; 5]) -> Inst
 }
 
 #[test]
-fn encode_refuses_every_field_outside_its_width() {
+fn s3_12_encode_refuses_every_field_outside_its_width() {
     for (form, greatest) in WIDTHS {
         let answer = raw::encode(instruction(form, greatest));
         assert_eq!(answer.number, 0, "form {form}");
@@ -97,7 +97,7 @@ fn encode_refuses_every_field_outside_its_width() {
 }
 
 #[test]
-fn decode_refuses_words_of_more_than_18_bits() {
+fn s3_5_decode_refuses_words_of_more_than_18_bits() {
     for word in [0x40000, 0x7FFFF, 0x8000_0000, u32::MAX] {
         let answer = raw::decode(word);
         assert_eq!((answer.number, answer.instruction), (3, Instruction::default()));

@@ -1,9 +1,9 @@
-// Each refusal by its number, and that a refused call leaves machine and buffers as they were.
+// Each refusal by its number, and that a refused call leaves machine and buffers unchanged.
 // Paper: "Where calls are turned down".
-// Every limit is tried from both sides; the order of the rows where one call can break two.
+// Every limit is tried on both sides, and the order of the rows where one call can break two.
 use std::error::Error;
 use trm::image::{self, Image};
-use trm::{decode, watch, Counts, ImageFault, Instruction, Lines, Machine, Refusal};
+use trm::{decode, watch, Counts, ImageFault, Instruction, LineByte, Machine, Refusal};
 
 /// Branch never: one clock each, and the machine stays ready.
 const NOP: u32 = 0x3BC00;
@@ -12,7 +12,7 @@ fn machine() -> Machine {
     Machine::new(vec![NOP], vec![5; 64]).unwrap()
 }
 
-/// A machine that has so many clocks behind it.
+/// A machine after this many clocks.
 fn after(clocks: u64) -> Machine {
     let (mut record, program, store) = machine().into_parts();
     record.clocks = clocks;
@@ -29,13 +29,13 @@ fn numbers_names_and_sentences() {
         assert_eq!(Refusal::from_number(number), None);
     }
     assert_eq!(Refusal::Clocks.to_string(), "refused with 8: the clock count would pass 4,294,967,295");
-    let fault = ImageFault { refusal: Refusal::Lines, at: 18 };
+    let fault = ImageFault { refusal: Refusal::LineBytes, at: 18 };
     assert_eq!(fault.to_string(), "refused 6 18");
-    assert_eq!(fault.source().unwrap().to_string(), Refusal::Lines.to_string());
+    assert_eq!(fault.source().unwrap().to_string(), Refusal::LineBytes.to_string());
 }
 
 #[test]
-fn refusals_1_and_2_of_images() {
+fn s3_3_refusals_1_and_2_of_images() {
     let refused = |image: &[u8]| image::check(image, 2048).unwrap_err();
     assert_eq!(refused(&[0; 65537]), ImageFault { refusal: Refusal::Image, at: 0 });
     assert_eq!(refused(&[]), ImageFault { refusal: Refusal::Kind, at: 0 });
@@ -43,7 +43,7 @@ fn refusals_1_and_2_of_images() {
 }
 
 #[test]
-fn refusal_3_of_programs_and_words() {
+fn s3_5_refusal_3_of_programs_and_words() {
     let refused = |program: Vec<u32>| Machine::new(program, vec![0; 64]).err();
     assert_eq!(refused(vec![]), Some(Refusal::Program));
     assert_eq!(refused(vec![NOP; 4097]), Some(Refusal::Program));
@@ -53,7 +53,7 @@ fn refusal_3_of_programs_and_words() {
 }
 
 #[test]
-fn refusal_4_of_stores() {
+fn s3_6_refusal_4_of_stores() {
     let refused = |words| Machine::new(vec![NOP], vec![0; words]).err();
     for words in [0, 1, 32, 63, 65, 96, 32767, 65536] {
         assert_eq!(refused(words), Some(Refusal::Store), "{words} words");
@@ -64,7 +64,7 @@ fn refusal_4_of_stores() {
 }
 
 #[test]
-fn refusal_5_of_records() {
+fn s3_7_refusal_5_of_records() {
     let refused = |spoil: fn(&mut trm::raw::Machine)| {
         let (mut record, program, store) = machine().into_parts();
         spoil(&mut record);
@@ -79,7 +79,7 @@ fn refusal_5_of_records() {
 }
 
 #[test]
-fn the_rows_go_down() {
+fn s3_1_the_rows_go_down() {
     let (mut record, program, store) = machine().into_parts();
     record.pc = 4096;
     assert_eq!(Machine::new(vec![], vec![0; 63]).err(), Some(Refusal::Program));
@@ -89,20 +89,20 @@ fn the_rows_go_down() {
 }
 
 #[test]
-fn refusal_6_of_lines() {
+fn s3_8_refusal_6_of_lines() {
     let mut machine = machine();
     let before = machine.clone();
-    assert_eq!(machine.run(&[0, 8], &[0, 0]), Err(Refusal::Lines));
-    assert_eq!(machine.run(&[0, 255], &[0, 0]), Err(Refusal::Lines));
-    assert_eq!(machine.run(&[0], &[]), Err(Refusal::Lines));
-    assert_eq!(machine.run(&[0; 65537], &[0; 65537]), Err(Refusal::Lines));
+    assert_eq!(machine.run(&[0, 8], &[0, 0]), Err(Refusal::LineBytes));
+    assert_eq!(machine.run(&[0, 255], &[0, 0]), Err(Refusal::LineBytes));
+    assert_eq!(machine.run(&[0], &[]), Err(Refusal::LineBytes));
+    assert_eq!(machine.run(&[0; 65537], &[0; 65537]), Err(Refusal::LineBytes));
     assert_eq!(machine, before);
-    assert_eq!(Lines::try_from(8), Err(Refusal::Lines));
+    assert_eq!(LineByte::try_from(8), Err(Refusal::LineBytes));
     assert_eq!(machine.run(&[0; 65536], &[0; 65536]).unwrap().totals.used, 65536);
 }
 
 #[test]
-fn refusal_7_of_buffers() {
+fn s3_9_refusal_7_of_buffers() {
     let mut machine = machine();
     let before = machine.clone();
     let (mut bytes, mut words) = ([9; 3], [9; 3]);
@@ -116,22 +116,22 @@ fn refusal_7_of_buffers() {
 }
 
 #[test]
-fn refusal_8_of_clocks() {
+fn s3_10_refusal_8_of_clocks() {
     let mut machine = after(0xFFFF_FFFE);
     let before = machine.clone();
     assert_eq!(machine.run(&[0; 2], &[0; 2]), Err(Refusal::Clocks));
     assert_eq!(machine, before);
-    machine.clock(Lines::STALL, 0).unwrap();
+    machine.clock(LineByte::STALL, 0).unwrap();
     let last = machine.clone();
-    assert_eq!(machine.clock(Lines::NONE, 0), Err(Refusal::Clocks));
-    assert_eq!(machine.clock(Lines::STALL, 0), Err(Refusal::Clocks));
+    assert_eq!(machine.clock(LineByte::NONE, 0), Err(Refusal::Clocks));
+    assert_eq!(machine.clock(LineByte::STALL, 0), Err(Refusal::Clocks));
     assert_eq!(machine.run(&[], &[]).unwrap().totals.used, 0);
     assert_eq!(machine, last);
     assert_eq!(machine.counts(), Counts { clocks: 0xFFFF_FFFF, held: 1, refills: 0, writebacks: 0 });
 }
 
 #[test]
-fn refusal_9_of_addresses() {
+fn s3_11_refusal_9_of_addresses() {
     let machine = machine();
     for address in [0xFFC0, 0xFFFF, 0x10000, u32::MAX] {
         assert_eq!(machine.look(address), Err(Refusal::Address), "{address:X}H");
@@ -141,7 +141,7 @@ fn refusal_9_of_addresses() {
 }
 
 #[test]
-fn refusal_10_of_instructions() {
+fn s3_12_refusal_10_of_instructions() {
     let refused = |instruction: Instruction| instruction.encode().err();
     assert_eq!(refused(Instruction::Jump { s: 8 }), Some(Refusal::Instruction));
     assert_eq!(refused(Instruction::SetStatus { status: 16 }), Some(Refusal::Instruction));
@@ -150,10 +150,10 @@ fn refusal_10_of_instructions() {
 }
 
 #[test]
-fn row_6_before_7_before_8() {
+fn s3_1_row_6_before_7_before_8() {
     let mut machine = after(0xFFFF_FFFF);
     let before = machine.clone();
-    assert_eq!(machine.run_into(&[8], &[0], &mut [], &mut []), Err(Refusal::Lines));
+    assert_eq!(machine.run_into(&[8], &[0], &mut [], &mut []), Err(Refusal::LineBytes));
     assert_eq!(machine.run_into(&[7], &[0], &mut [], &mut []), Err(Refusal::Buffers));
     assert_eq!(machine.run_into(&[7], &[0], &mut [0], &mut [0]), Err(Refusal::Clocks));
     assert_eq!(machine, before);

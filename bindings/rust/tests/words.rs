@@ -1,9 +1,9 @@
-// Every word of 18 bits decoded and encoded, the typed calls beside the raw ones, and instructions as text.
+// Every word of 18 bits decoded and encoded, the typed calls compared with the raw ones, and instructions as text.
 // Paper: "What a programmer sees"; "Unused bits encode as zero; RTI encodes as 01".
-// Which bits are unused is written down here from the paper a second time.
+// The unused bits are written here from the paper a second time.
 use trm::{decode, raw, Instruction, Operand, Operation, Refusal};
 
-/// The bits that are used by the format that a word has.
+/// The bits that the format of a word uses.
 fn used(word: u32) -> u32 {
     let (operation, register) = (word >> 14, word & 0x400 != 0);
     match operation {
@@ -19,7 +19,7 @@ fn used(word: u32) -> u32 {
 }
 
 #[test]
-fn decode_and_encode_are_inverse_on_every_word() {
+fn s1_30_decode_and_encode_are_inverse_on_every_word() {
     let mut canonical = 0;
     for word in 0..0x40000 {
         let fields = raw::decode(word).instruction;
@@ -38,7 +38,7 @@ fn decode_and_encode_are_inverse_on_every_word() {
 }
 
 #[test]
-fn numbers_and_operations() {
+fn s1_4_numbers_and_operations() {
     for (number, operation) in (0..).zip(Operation::ALL) {
         assert_eq!((operation.number(), Operation::from_number(number)), (number, Some(operation)));
         let moved = Instruction::Arithmetic { operation, d: 3, operand: Operand::Register(5) };
@@ -48,7 +48,7 @@ fn numbers_and_operations() {
 }
 
 #[test]
-fn fields_that_no_instruction_has_are_refused() {
+fn s3_12_fields_that_no_instruction_has_are_refused() {
     let none = raw::Instruction::default();
     for fields in [
         raw::Instruction { form: 11, ..none },
@@ -87,7 +87,7 @@ fn instructions_as_text() {
     }
 }
 
-/// Instructions that do not encode have a text too.
+/// Instructions that do not encode have text too.
 #[test]
 fn fields_outside_their_width_have_a_text() {
     let branch = Instruction::Branch { condition: u32::MAX, offset: u32::MAX };

@@ -1,10 +1,10 @@
--- The machine record in memory: how many bytes it has, and its version.
--- Paper: none of it; later requests change the record. Assumes nothing.
---   recordSize   the bytes of a record, as the compiler lays it out
---   recordVersion   one more for each change of the record or of what C sees
+-- The machine record in memory: its size in bytes and its version.
+-- Paper: nothing; later requests change the record (D-74).
+--   recordSize      the size of a record as the compiler lays it out
+--   recordVersion   goes up by one with each change of the record or of the C interface
 use Prim.Native.Nat.{ℕ}
 use prog.Memory.{size}
-use Rattle.trm_engine.proofs.machine.Machine.Laws.{mir}
+use Rattle.trm_run_machine.proofs.machine.Machine.Laws.{mir}
 
 abbrev pub recordSize : ℕ
 recordSize = size mir

@@ -1,5 +1,4 @@
--- The exported calls in definitions: what each gives on every input.
+-- What each exported call returns for every input.
 -- Paper: "Where calls are turned down".
--- Assumes nothing.
 pub mod Promises
 pub mod Layout

@@ -1,6 +1,6 @@
-// What a C program can ask before it uses a record: how many bytes one has, and which version of it this library knows.
-// Paper: none of it; later requests change the record.
-// The size is the compiler's own: it is proved equal to that of the declared type.
+// What a C program can ask before it uses a record: its size in bytes, and the version that this library knows.
+// Paper: nothing; later requests change the record.
+// The size is proved equal to that of the declared type as the compiler lays it out.
 ghost use mathlib.Core.Path.{_≡_};
 ghost use Rattle.trm.specs.Layout.{recordSize, recordVersion};
 

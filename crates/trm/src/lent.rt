@@ -1,9 +1,9 @@
-// The second entry: the record itself is lent for one clock.
+// The second entry of the clock: the caller lends the record, which is changed in place.
 // Paper: "Later a second entry lends the record itself for one clock, with the same outcome".
-// It lends the record's arrays to the covered clock and stores the scalars that come back; its proof is by hand.
+// It lends the record's arrays to `placed::clock` and stores the scalars that this returns; its proof is written by hand (D-28).
 ghost use Rattle.trm.specs.Promises.{ClockNumbered, withRecord};
-use crate::answer::LentAnswer;
-use trm_engine::machine::Machine;
+use crate::exported_answers::LentAnswer;
+use trm_run_machine::machine::Machine;
 
 // One clock, in place.
 #[no_mangle]
@@ -11,10 +11,10 @@ pub extern "C" fn trm_clock(
     m: &mut Machine,
     program: &[u32],
     store: &mut [u32],
-    line: u8,
+    pins: u8,
     input: u32,
 ) -> LentAnswer
-    ensures { λ r. ⌜ ClockNumbered (now (m .entry)) (now (program .entry)) (now (store .entry)) line input
+    ensures { λ r. ⌜ ClockNumbered (now (m .entry)) (now (program .entry)) (now (store .entry)) pins input
         (withRecord (now (m .exit)) r) (now (store .exit)) ⌝ }
 {
     let r = crate::inner::placed::clock(
@@ -26,7 +26,7 @@ pub extern "C" fn trm_clock(
         &mut m.block,
         &mut m.words,
         store,
-        line,
+        pins,
         input,
     );
     m.scalars = r.scalars;

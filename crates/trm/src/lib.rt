@@ -1,10 +1,11 @@
-// The static library that C and Rust programs link: each call with the paper's number in place of the enum.
+// The static library that C and Rust programs link: each call returns the paper's refusal number in place of an enum.
 // Paper: "Where calls are turned down"; "The clock call takes the record and returns it".
-// `calls`, `lent`, `words`, `image`, `layout`: the exported functions; `answer`: what they return; `inner`: the lent entry's clock.
-pub mod answer;
-pub mod calls;
-pub mod image;
+// `exported_calls`, `lent`, `codec`, `image_calls`, `layout`: the exported functions; `exported_answers`: what they return;
+// `inner`: the clock behind the lent entry.
+pub mod codec;
+pub mod exported_answers;
+pub mod exported_calls;
+pub mod image_calls;
 mod inner;
 pub mod layout;
 pub mod lent;
-pub mod words;

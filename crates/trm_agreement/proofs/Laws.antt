@@ -1,7 +1,6 @@
--- The steps of the proof, in order: any two machines in step, the history, the relation, one clock, one log; what a clock adds to the
--- book, the audit of the log; what the calls hand back, and demand 3.
--- Idea: the reference machine is the record's visible part and counts with a flat memory, a history and clocks left.
--- Assumes nothing.
+-- The proof, in order: any two machines in step, the history, the relation, one clock, one log; what a clock adds to the book, the audit
+-- of the log; what the calls return, and demand 3.
+-- Idea: the reference machine is the record's visible part and counts with a flat memory, a history and a number of clocks left.
 pub mod Simulate
 pub mod History
 pub mod Relation

@@ -1,5 +1,4 @@
 -- The proofs of demand 3 and of the claims around it.
 -- Nothing here need be read to know what is claimed.
--- Assumes nothing.
 pub mod Laws
 pub mod Theorems

@@ -1,6 +1,5 @@
--- The claims of this crate, proved: the value of the record of `specs/Claims.antt`.
+-- The claims of this crate, proved: the value of the record `Claims` of specs/Claims.antt.
 -- Idea: each field is a law of Laws/.
--- Assumes nothing.
 use Prim.Native.Nat.{ℕ}
 use mathlib.Core.List.{List}
 use Rattle.trm_reference.specs.Geometry.{Geometry}

@@ -1,8 +1,8 @@
--- The calls of demand 3 and the two machines as engines: the record with its store, and the reference machine.
+-- The calls of demand 3, and the two machines that it compares as engines: the record with its store, and the reference machine.
 -- Paper: "Demand 3 needs only reset, the clock call and the run"; "no call of the list is refused with 5"; "A run's clocks used are the
--- number of its line bytes, its instructions finished the number of words the plain machine carries out in it". Assumes nothing.
+-- number of its line bytes, its instructions finished the number of words the plain machine carries out in it".
 --   Call          a clock call or a run after the reset        Ended   what it returns        Seen   what is compared after every clock
---   Line          an entry of their logs
+--   Line          an entry of the log of these calls
 --   recordEngine, referenceEngine   the two machines under a program
 use Prim.Native.Nat.{ℕ}
 use mathlib.Core.Bool.{cond, not}
@@ -21,17 +21,17 @@ use Rattle.trm_core.specs.Run.{bytesOf, wordsOf}
 use Rattle.trm_cache.specs.Cache.{copyOf}
 use Rattle.trm_agreement.specs.Log.{Engine, Entry}
 
--- a run's last two lists are its answer buffers as they are lent
+-- the last two lists of a run are its answer buffers as lent
 pub data Call : Type 0 where
-  clockCall : (line input : ℕ) → Call
-  runCall : (lines inputs bytes words : List ℕ) → Call
+  clockCall : (lineByte input : ℕ) → Call
+  runCall : (lineBytes inputs bytes words : List ℕ) → Call
 
--- the pins of a call's clocks
+-- the inputs of a call's clocks
 unfoldable pub feed : Call → List Pins
-feed (clockCall line input) = record { line = line; input = input } ∷ []
-feed (runCall lines inputs bytes words) = pinsOf lines inputs
+feed (clockCall lineByte input) = record { lineByte = lineByte; input = input } ∷ []
+feed (runCall lineBytes inputs bytes words) = pinsOf lineBytes inputs
 
--- the number of a clock call; the number of a run with its counts and both buffers, which a refused run leaves as they were
+-- the number of a clock call; of a run the number, its counts and both buffers, which a refused run leaves unchanged
 pub data Ended : Type 0 where
   clockEnds : (code : ℕ) → Ended
   runEnds : (code used finished : ℕ) (bytes words : List ℕ) → Ended
@@ -41,10 +41,10 @@ numberOf (clockEnds code) = code
 numberOf (runEnds code used finished bytes words) = code
 
 unfoldable pub answer : ℕ → Call → List Answer → Ended
-answer code (clockCall line input) outs = clockEnds code
-answer code (runCall lines inputs bytes words) outs =
+answer code (clockCall lineByte input) outs = clockEnds code
+answer code (runCall lineBytes inputs bytes words) outs =
     cond (eqb code 0)
-    (runEnds 0 (length lines) (finishedIn outs) (bytesOf outs) (wordsOf outs))
+    (runEnds 0 (length lineBytes) (finishedIn outs) (bytesOf outs) (wordsOf outs))
     (runEnds code 0 0 bytes words)
 
 -- demand 3: all that a programmer sees, memory as a copy gives it, all counts
@@ -57,8 +57,8 @@ pub record Seen : Type 0 where
   pub writebacks : ℕ
 
 -- an entry of the log of these calls
-abbrev pub Line : Type 0
-Line = Entry Pins Answer Seen Ended
+abbrev pub LogEntry : Type 0
+LogEntry = Entry Pins Answer Seen Ended
 
 unfoldable pub recordSeen : Geometry → Lent → Seen
 recordSeen G x =
@@ -82,10 +82,10 @@ referenceSeen q =
       writebacks = q .writebacks;
     }
 
--- rows 6, 7 and 8, of the clock count: never 4, never 5
+-- rows 6, 7 and 8, given the clock count; 4 and 5 never occur
 unfoldable pub ownRows : ℕ → Call → ℕ
-ownRows clocks (clockCall line input) = clockRows clocks line
-ownRows clocks (runCall lines inputs bytes words) = runRows clocks lines inputs bytes words
+ownRows clocks (clockCall lineByte input) = clockRows clocks lineByte
+ownRows clocks (runCall lineBytes inputs bytes words) = runRows clocks lineBytes inputs bytes words
 
 -- a bad program: every call is refused with 3
 unfoldable pub referenceCode : List ℕ → Reference → Call → ℕ
@@ -93,8 +93,8 @@ referenceCode p q c = cond (not (programOk p)) 3 (ownRows (q .clocks) c)
 
 module _ (G : Geometry) (p : List ℕ) where
   unfoldable pub recordCode : Lent → Call → ℕ
-  recordCode x (clockCall line input) = clockRefusal G p (x .machine) (x .store) line
-  recordCode x (runCall lines inputs bytes words) = runRefusal G p (x .machine) (x .store) lines inputs bytes words
+  recordCode x (clockCall lineByte input) = clockRefusal G p (x .machine) (x .store) lineByte
+  recordCode x (runCall lineBytes inputs bytes words) = runRefusal G p (x .machine) (x .store) lineBytes inputs bytes words
 
   unfoldable pub recordEngine : Engine Lent Pins Answer Seen Call
   recordEngine = record { step = clockOf G p; seen = recordSeen G; code = recordCode }

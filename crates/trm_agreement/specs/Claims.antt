@@ -1,6 +1,5 @@
--- Demand 3 and the claims around it: one statement to a field of `Claims`, each under its sentence.
--- Demand 3 is the first field, `Demand3` of specs/Demand.antt; the others say more of what it is made of. The value is in
--- proofs/Theorems.antt. Assumes nothing.
+-- Demand 3 and the claims around it, one statement per field of `Claims`.
+-- Demand 3 is the first field, `Demand3` of specs/Demand.antt; the others say more about its parts. The value is in proofs/Theorems.antt.
 use Prim.Native.Nat.{ℕ}
 use mathlib.Core.Path.{_≡_}
 use mathlib.Core.Bool.{true, false}
@@ -18,27 +17,27 @@ use Rattle.trm_core.specs.Clock.{clockOf}
 use Rattle.trm_core.specs.Refusals.{resetRefusal, clockRefusal, runRefusal}
 use Rattle.trm_core.specs.Run.{runOf}
 use Rattle.trm_core.specs.Claims.{acknowledges, Counted, Kept}
-use Rattle.trm_engine.specs.declared.machine.Machine.{Machine}
-use Rattle.trm_engine.specs.Machine.{recordOf, lent}
-use Rattle.trm_engine.proofs.machine.Machine.{the-type}
-use Rattle.trm_calls.specs.declared.answer.Reset.{Reset}
-use Rattle.trm_engine.specs.declared.answer.Clock.{Clock}
-use Rattle.trm_calls.specs.declared.answer.Run.{Run}
+use Rattle.trm_run_machine.specs.declared.machine.Machine.{Machine}
+use Rattle.trm_run_machine.specs.Machine.{recordOf, lent}
+use Rattle.trm_run_machine.proofs.machine.Machine.{the-type}
+use Rattle.trm_calls.specs.declared.call_answers.Reset.{Reset}
+use Rattle.trm_run_machine.specs.declared.clock_answer.Clock.{Clock}
+use Rattle.trm_calls.specs.declared.call_answers.Run.{Run}
 use Rattle.trm_agreement.specs.Log.{clocksOf, entries, calls, logOf, clockedIn, answersIn, fedOf, stateOf}
 use Rattle.trm_agreement.specs.Calls.{Call, runCall, feed, answer, runEnds, recordSeen, recordEngine, referenceEngine}
 use Rattle.trm_agreement.specs.Contracts.{ResetMet, ClockMet, RunMet}
 use Rattle.trm_agreement.specs.Demand.{Holds, Demand3}
 use Rattle.trm_agreement.specs.Plain.{InterruptRule, AnswersHold, PlainClock, PlainDevices, Bounded, PlainMachine}
 
--- What `Demand3` promises of the log of the calls, of the definitions that the contracts cite, for every geometry of `geometryOk`.
+-- What `Demand3` claims of the log of the calls, here of the definitions that the contracts cite, for every geometry of `geometryOk`.
 abbrev pub EveryGeometry : Type 0
 EveryGeometry =
     (G : Geometry) (p s : List ℕ) (cs : List Call) → geometryOk G ≡ true → resetRefusal s ≡ 0
     → Holds G p s cs (recordSeen G (start G s)) (calls feed answer (recordEngine G p) (start G s) cs)
     (recordSeen G (stateOf feed answer (recordEngine G p) (start G s) cs))
 
--- A list of calls is a list of clocks, those of the calls that were not refused: its last state, the clocks of its log with what each
--- was fed, what was seen after it and what it answered, and their answers.
+-- A list of calls is a list of clocks, those of the calls that were not refused: its last state; the clocks of its log with the input of
+-- each, what is seen after it and its answer; and the answers alone.
 pub record CallsAreClocks (G : Geometry) (p : List ℕ) (q : Reference) (cs : List Call) : Type 0 where
   pub state : stateOf feed answer (referenceEngine G p) q cs
       ≡ endOf q (clocks (referenceClock G p) q (fedOf feed answer (referenceEngine G p) q cs))
@@ -48,49 +47,49 @@ pub record CallsAreClocks (G : Geometry) (p : List ℕ) (q : Reference) (cs : Li
   pub answers : answersIn (logOf feed answer (referenceEngine G p) q cs)
       ≡ outsOf (clocks (referenceClock G p) q (fedOf feed answer (referenceEngine G p) q cs))
 
--- A run that is not refused is `runOf`, which its contract cites: one clock to a line byte, its last state, counts and buffers.
-pub record RunIs (G : Geometry) (p : List ℕ) (x : Lent) (lines inputs bytes words : List ℕ) : Type 0 where
-  pub clocks : length (clocksOf feed answer (recordEngine G p) x (runCall lines inputs bytes words)) ≡ length lines
-  pub state : endOf x (clocksOf feed answer (recordEngine G p) x (runCall lines inputs bytes words))
-      ≡ runOf G p x lines inputs .state
-  pub reports : answer 0 (runCall lines inputs bytes words)
-      (outsOf (clocksOf feed answer (recordEngine G p) x (runCall lines inputs bytes words)))
-      ≡ runEnds 0 (runOf G p x lines inputs .used) (runOf G p x lines inputs .finished) (runOf G p x lines inputs .bytes)
-      (runOf G p x lines inputs .words)
+-- A run that is not refused is `runOf`, which its contract cites: one clock per line byte, its last state, counts and buffers.
+pub record RunIs (G : Geometry) (p : List ℕ) (x : Lent) (lineBytes inputs bytes words : List ℕ) : Type 0 where
+  pub clocks : length (clocksOf feed answer (recordEngine G p) x (runCall lineBytes inputs bytes words)) ≡ length lineBytes
+  pub state : endOf x (clocksOf feed answer (recordEngine G p) x (runCall lineBytes inputs bytes words))
+      ≡ runOf G p x lineBytes inputs .state
+  pub reports : answer 0 (runCall lineBytes inputs bytes words)
+      (outsOf (clocksOf feed answer (recordEngine G p) x (runCall lineBytes inputs bytes words)))
+      ≡ runEnds 0 (runOf G p x lineBytes inputs .used) (runOf G p x lineBytes inputs .finished) (runOf G p x lineBytes inputs .bytes)
+      (runOf G p x lineBytes inputs .words)
 
 abbrev pub RunsAreRuns : Type 0
 RunsAreRuns =
-    (G : Geometry) (p : List ℕ) (x : Lent) (lines inputs bytes words : List ℕ)
-    → runRefusal G p (x .machine) (x .store) lines inputs bytes words ≡ 0 → RunIs G p x lines inputs bytes words
+    (G : Geometry) (p : List ℕ) (x : Lent) (lineBytes inputs bytes words : List ℕ)
+    → runRefusal G p (x .machine) (x .store) lineBytes inputs bytes words ≡ 0 → RunIs G p x lineBytes inputs bytes words
 
--- trm_calls' own functions: on every input there is something to hand back that the contract allows.
+-- The functions of trm_calls: for every input there is a result that the contract allows.
 pub record ResetAnswered (s : List ℕ) : Type 0 where
   pub result : Reset
   pub met : ResetMet s result
 
-pub record ClockAnswered (m : Machine) (p s : List ℕ) (line input : ℕ) : Type 0 where
+pub record ClockAnswered (m : Machine) (p s : List ℕ) (lineByte input : ℕ) : Type 0 where
   pub result : Clock
   pub store : List ℕ
-  pub met : ClockMet m p s line input result store
+  pub met : ClockMet m p s lineByte input result store
 
-pub record RunAnswered (m : Machine) (p s lines inputs bytes words : List ℕ) : Type 0 where
+pub record RunAnswered (m : Machine) (p s lineBytes inputs bytes words : List ℕ) : Type 0 where
   pub result : Run
   pub store : List ℕ
   pub bytes′ : List ℕ
   pub words′ : List ℕ
-  pub met : RunMet m p s lines inputs bytes words result store bytes′ words′
+  pub met : RunMet m p s lineBytes inputs bytes words result store bytes′ words′
 
 pub record OwnAnswered : Type 0 where
   pub reset : (s : List ℕ) → ResetAnswered s
-  pub clock : (m : Machine) (p s : List ℕ) (line input : ℕ) → ClockAnswered m p s line input
-  pub run : (m : Machine) (p s lines inputs bytes words : List ℕ) → RunAnswered m p s lines inputs bytes words
+  pub clock : (m : Machine) (p s : List ℕ) (lineByte input : ℕ) → ClockAnswered m p s lineByte input
+  pub run : (m : Machine) (p s lineBytes inputs bytes words : List ℕ) → RunAnswered m p s lineBytes inputs bytes words
 
--- The clock table and the record rule of trm_core on any record of the code that a clock call accepts, however it came about. Its type
--- holds the lengths of its arrays (`Is`: m is a value of the declared type), so that no `Shaped` is asked.
+-- The clock table and the record rule of trm_core for any record of the code that a clock call accepts, reached or not. The lengths of its
+-- arrays follow from its type (`Is`: m is a value of the declared type), so `Shaped` is not required (D-31).
 pub record OfTheCode (m : Machine) : Type 0 where
-  pub clock-table : (p s : List ℕ) (pins : Pins) → clockRefusal paperGeometry p (recordOf m) s (pins .line) ≡ 0
-      → stalled (pins .line) ≡ false → acknowledges (recordOf m) pins ≡ false → Counted paperGeometry p (lent m s) pins
-  pub record-kept : (p s : List ℕ) (pins : Pins) → clockRefusal paperGeometry p (recordOf m) s (pins .line) ≡ 0
+  pub clock-table : (p s : List ℕ) (pins : Pins) → clockRefusal paperGeometry p (recordOf m) s (pins .lineByte) ≡ 0
+      → stalled (pins .lineByte) ≡ false → acknowledges (recordOf m) pins ≡ false → Counted paperGeometry p (lent m s) pins
+  pub record-kept : (p s : List ℕ) (pins : Pins) → clockRefusal paperGeometry p (recordOf m) s (pins .lineByte) ≡ 0
       → Kept paperGeometry p (clockOf paperGeometry p (lent m s) pins .state)
 
 pub record Claims : Type 0 where

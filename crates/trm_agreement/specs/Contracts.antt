@@ -1,6 +1,6 @@
--- The contracts of the calls as plain facts: what the functions' own `ensures` say of a result and of the buffers at exit.
+-- The contracts of the calls as plain facts: what each function's `ensures` says of its result and of the buffers at exit.
 -- Paper: "For each callable function and all inputs, refused ones too, a contract gives its result ..".
--- Assumes nothing. A slice or a record that is lent is a reference, of which a contract sees what it holds before and after.
+-- A slice or record that is lent is a reference; a contract sees what it holds before and after the call.
 --   ShippedReset, ShippedValue, ShippedLent, ShippedRun    the `ensures` of trm's trm_reset, trm_clock_value, trm_clock and trm_run
 --   ResetMet, ClockMet, RunMet                             those of trm_calls' reset, clock and run
 use Prim.Native.Nat.{ℕ}
@@ -13,20 +13,20 @@ use denote.Triple.Clauses.{AtExit}
 use borrow.Fn.Claims.{AllOf}
 use borrow.Fn.World.{ArgsD, ResD}
 use borrow.Fn.Read.{all-models, r-last, no-know}
-use Rattle.trm_engine.specs.declared.machine.Machine.{Machine}
-use Rattle.trm_calls.specs.declared.answer.Reset.{Reset}
-use Rattle.trm_engine.specs.declared.answer.Clock.{Clock}
-use Rattle.trm_calls.specs.declared.answer.Run.{Run}
-use Rattle.trm_calls.proofs.calls.reset.Reads as reset-reads
-use Rattle.trm_calls.proofs.calls.clock.Reads as clock-reads
-use Rattle.trm_calls.proofs.calls.run.Reads as run-reads
-use Rattle.trm.specs.declared.answer.ResetAnswer.{ResetAnswer}
-use Rattle.trm.specs.declared.answer.ClockAnswer.{ClockAnswer}
-use Rattle.trm.specs.declared.answer.LentAnswer.{LentAnswer}
-use Rattle.trm.specs.declared.answer.RunAnswer.{RunAnswer}
-use Rattle.trm.proofs.calls.trm_reset.Reads as shipped-reset
-use Rattle.trm.proofs.calls.trm_clock_value.Reads as shipped-value
-use Rattle.trm.proofs.calls.trm_run.Reads as shipped-run
+use Rattle.trm_run_machine.specs.declared.machine.Machine.{Machine}
+use Rattle.trm_calls.specs.declared.call_answers.Reset.{Reset}
+use Rattle.trm_run_machine.specs.declared.clock_answer.Clock.{Clock}
+use Rattle.trm_calls.specs.declared.call_answers.Run.{Run}
+use Rattle.trm_calls.proofs.machine_calls.reset.Reads as reset-reads
+use Rattle.trm_calls.proofs.machine_calls.clock.Reads as clock-reads
+use Rattle.trm_calls.proofs.machine_calls.run.Reads as run-reads
+use Rattle.trm.specs.declared.exported_answers.ResetAnswer.{ResetAnswer}
+use Rattle.trm.specs.declared.exported_answers.ClockAnswer.{ClockAnswer}
+use Rattle.trm.specs.declared.exported_answers.LentAnswer.{LentAnswer}
+use Rattle.trm.specs.declared.exported_answers.RunAnswer.{RunAnswer}
+use Rattle.trm.proofs.exported_calls.trm_reset.Reads as shipped-reset
+use Rattle.trm.proofs.exported_calls.trm_clock_value.Reads as shipped-value
+use Rattle.trm.proofs.exported_calls.trm_run.Reads as shipped-run
 use Rattle.trm.proofs.lent.trm_clock as shipped-lent
 
 pub record ShippedReset (s : List ℕ) (r : ResetAnswer) : Type 0 where
@@ -35,17 +35,17 @@ pub record ShippedReset (s : List ℕ) (r : ResetAnswer) : Type 0 where
   pub holds : store .now ≡ s
   pub ensures : shipped-reset.Post lifetimes (store, tt) r (store, tt)
 
-pub record ShippedValue (m : Machine) (p s : List ℕ) (line input : ℕ) (r : ClockAnswer) (s′ : List ℕ) : Type 0 where
+pub record ShippedValue (m : Machine) (p s : List ℕ) (lineByte input : ℕ) (r : ClockAnswer) (s′ : List ℕ) : Type 0 where
   pub lifetimes : Lfts 2
   pub program : RefT (List ℕ)
   pub store : RefT (List ℕ)
   pub store′ : RefT (List ℕ)
   pub holds : (program .now ≡ p) × (store .now ≡ s) × (store′ .now ≡ s′)
-  pub ensures : shipped-value.Post lifetimes (m, (program, (store, (line, (input, tt))))) r
-      (m, (program, (store′, (line, (input, tt)))))
+  pub ensures : shipped-value.Post lifetimes (m, (program, (store, (lineByte, (input, tt))))) r
+      (m, (program, (store′, (lineByte, (input, tt)))))
 
--- The lent entry is proved by hand, so no reading of its `ensures` is made for it: this is one, of the clause itself, as the checker
--- makes those of the other functions.
+-- The lent entry is proved by hand, so the checker makes no reading of its `ensures`: this is one, built from the clause in the same way
+-- as those of the other functions.
 abbrev lentPost : (κs : Lfts 3) → ArgsD shipped-lent.signature κs → ResD shipped-lent.signature κs → AtExit shipped-lent.ended κs → Type 0
 lentPost κs a r e =
     AllOf (all-models {Base = λ w. emp (w .𝓤)} {Know = no-know}
@@ -53,7 +53,7 @@ lentPost κs a r e =
     (λ w. r-last _) (λ w. refl) (λ w. refl) (λ w. refl) .owes)
 
 -- its record is lent: m before and m′ after
-pub record ShippedLent (m : Machine) (p s : List ℕ) (line input : ℕ) (m′ : Machine) (r : LentAnswer) (s′ : List ℕ) : Type 0 where
+pub record ShippedLent (m : Machine) (p s : List ℕ) (lineByte input : ℕ) (m′ : Machine) (r : LentAnswer) (s′ : List ℕ) : Type 0 where
   pub lifetimes : Lfts 3
   pub machine : RefT Machine
   pub machine′ : RefT Machine
@@ -61,10 +61,10 @@ pub record ShippedLent (m : Machine) (p s : List ℕ) (line input : ℕ) (m′ :
   pub store : RefT (List ℕ)
   pub store′ : RefT (List ℕ)
   pub holds : (machine .now ≡ m) × (machine′ .now ≡ m′) × (program .now ≡ p) × (store .now ≡ s) × (store′ .now ≡ s′)
-  pub ensures : lentPost lifetimes (machine, (program, (store, (line, (input, tt))))) r
-      (machine′, (program, (store′, (line, (input, tt)))))
+  pub ensures : lentPost lifetimes (machine, (program, (store, (lineByte, (input, tt))))) r
+      (machine′, (program, (store′, (lineByte, (input, tt)))))
 
-pub record ShippedRun (m : Machine) (p s lines inputs bytes words : List ℕ) (r : RunAnswer) (s′ bytes′ words′ : List ℕ) : Type 0 where
+pub record ShippedRun (m : Machine) (p s ls inputs bytes words : List ℕ) (r : RunAnswer) (s′ bytes′ words′ : List ℕ) : Type 0 where
   pub lifetimes : Lfts 6
   pub program : RefT (List ℕ)
   pub store : RefT (List ℕ)
@@ -75,7 +75,7 @@ pub record ShippedRun (m : Machine) (p s lines inputs bytes words : List ℕ) (r
   pub answerBytes′ : RefT (List ℕ)
   pub answerWords : RefT (List ℕ)
   pub answerWords′ : RefT (List ℕ)
-  pub holds : (program .now ≡ p) × (store .now ≡ s) × (store′ .now ≡ s′) × (lineBytes .now ≡ lines) × (inputWords .now ≡ inputs)
+  pub holds : (program .now ≡ p) × (store .now ≡ s) × (store′ .now ≡ s′) × (lineBytes .now ≡ ls) × (inputWords .now ≡ inputs)
       × (answerBytes .now ≡ bytes) × (answerBytes′ .now ≡ bytes′) × (answerWords .now ≡ words) × (answerWords′ .now ≡ words′)
   pub ensures : shipped-run.Post lifetimes
       (m, (program, (store, (lineBytes, (inputWords, (answerBytes, (answerWords, tt))))))) r
@@ -87,15 +87,16 @@ pub record ResetMet (s : List ℕ) (r : Reset) : Type 0 where
   pub holds : store .now ≡ s
   pub ensures : reset-reads.Post lifetimes (store, tt) r (store, tt)
 
-pub record ClockMet (m : Machine) (p s : List ℕ) (line input : ℕ) (r : Clock) (s′ : List ℕ) : Type 0 where
+pub record ClockMet (m : Machine) (p s : List ℕ) (lineByte input : ℕ) (r : Clock) (s′ : List ℕ) : Type 0 where
   pub lifetimes : Lfts 2
   pub program : RefT (List ℕ)
   pub store : RefT (List ℕ)
   pub store′ : RefT (List ℕ)
   pub holds : (program .now ≡ p) × (store .now ≡ s) × (store′ .now ≡ s′)
-  pub ensures : clock-reads.Post lifetimes (m, (program, (store, (line, (input, tt))))) r (m, (program, (store′, (line, (input, tt)))))
+  pub ensures : clock-reads.Post lifetimes (m, (program, (store, (lineByte, (input, tt))))) r
+      (m, (program, (store′, (lineByte, (input, tt)))))
 
-pub record RunMet (m : Machine) (p s lines inputs bytes words : List ℕ) (r : Run) (s′ bytes′ words′ : List ℕ) : Type 0 where
+pub record RunMet (m : Machine) (p s ls inputs bytes words : List ℕ) (r : Run) (s′ bytes′ words′ : List ℕ) : Type 0 where
   pub lifetimes : Lfts 6
   pub program : RefT (List ℕ)
   pub store : RefT (List ℕ)
@@ -106,7 +107,7 @@ pub record RunMet (m : Machine) (p s lines inputs bytes words : List ℕ) (r : R
   pub answerBytes′ : RefT (List ℕ)
   pub answerWords : RefT (List ℕ)
   pub answerWords′ : RefT (List ℕ)
-  pub holds : (program .now ≡ p) × (store .now ≡ s) × (store′ .now ≡ s′) × (lineBytes .now ≡ lines) × (inputWords .now ≡ inputs)
+  pub holds : (program .now ≡ p) × (store .now ≡ s) × (store′ .now ≡ s′) × (lineBytes .now ≡ ls) × (inputWords .now ≡ inputs)
       × (answerBytes .now ≡ bytes) × (answerBytes′ .now ≡ bytes′) × (answerWords .now ≡ words) × (answerWords′ .now ≡ words′)
   pub ensures : run-reads.Post lifetimes
       (m, (program, (store, (lineBytes, (inputWords, (answerBytes, (answerWords, tt))))))) r

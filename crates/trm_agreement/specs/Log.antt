@@ -1,7 +1,6 @@
--- The log of a machine over a list of calls: what is seen at the start, after every clock and after every call, and what it returns.
--- Paper: "Demand 3 is one statement on the whole list, not one on each call". Any machine, inputs, answers and calls.
--- Assumes nothing.
---   Engine                      a machine: one clock, what is seen of a state, the number with which a call is refused
+-- The log of a machine over a list of calls: what is seen at the start, after every clock and after every call, and what each returns.
+-- Paper: "Demand 3 is one statement on the whole list, not one on each call". For any machine, inputs, answers and calls.
+--   Engine                      a machine: one clock, what is seen of a state, the refusal number of a call
 --   logOf feed answer E x cs    the log        returnsIn   what its calls returned
 --   answersIn, clockedIn        the answers of a log's clocks; the clocks alone        lastSeen   what is seen last
 --   fedOf, stateOf              the inputs of the calls that were not refused; the state after all calls
@@ -17,20 +16,20 @@ pub record Engine (S I O W C : Type 0) : Type 0 where
   pub seen : S → W
   pub code : S → C → ℕ
 
--- a line of the log: the start; a clock, what it was fed, what is seen after it and its answer; a call, what is seen once it is over
--- and what it returns
+-- an entry of the log: the start; a clock, with its input, what is seen after it and its answer; a call, with what is seen after it and
+-- what it returns
 pub data Entry (I O W A : Type 0) : Type 0 where
   started : W → Entry I O W A
   clocked : I → W → O → Entry I O W A
   ended : W → A → Entry I O W A
 
--- feed: the inputs of a call, one to a clock; answer: what a call returns, by its number and its clocks' outputs
+-- feed: the inputs of a call, one per clock; answer: what a call returns, given its number and the outputs of its clocks
 module _ {S I O W C A : Type 0} (feed : C → List I) (answer : ℕ → C → List O → A) (E : Engine S I O W C) where
   -- "A refused call moves nothing": no clock
   unfoldable pub clocksOf : S → C → List (After S O)
   clocksOf x c = cond (eqb (E .code x c) 0) (clocks (E .step) x (feed c)) []
 
-  -- the clocks with what they were fed
+  -- the clocks with their inputs
   unfoldable pub entries : List (After S O) → List I → List (Entry I O W A)
   entries [] is = []
   entries (t ∷ ts) [] = []
@@ -46,7 +45,7 @@ module _ {S I O W C A : Type 0} (feed : C → List I) (answer : ℕ → C → Li
   unfoldable pub logOf : S → List C → List (Entry I O W A)
   logOf x cs = started (E .seen x) ∷ calls x cs
 
-  -- the inputs that the machine was fed: those of the calls not refused
+  -- the inputs that the machine gets: those of the calls not refused
   unfoldable pub fedOf : S → List C → List I
   fedOf x [] = []
   fedOf x (c ∷ cs) = cond (eqb (E .code x c) 0) (feed c) [] ++ fedOf (endOf x (clocksOf x c)) cs

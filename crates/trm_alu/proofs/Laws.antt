@@ -1,6 +1,5 @@
--- The laws of the arithmetic's definitions, each file over those above it.
--- Idea: definitions are in signed numbers, laws in naturals with an offset.
--- Assumes nothing.
+-- Laws about the arithmetic; each file uses those listed above it.
+-- Definitions use signed numbers; the laws use naturals with an offset.
 pub mod Modular
 pub mod Signed
 pub mod Sums

@@ -1,5 +1,4 @@
--- What the proofs of several functions use, and the theorems.
--- Idea: Laws/ has the laws of the definitions; Theorems.antt proves every claim of specs/Claims.antt.
--- Assumes nothing.
+-- The laws that the proofs of this crate use, and the proof of its claims.
+-- Nothing here need be read to know what is claimed.
 pub mod Laws
 pub mod Theorems

@@ -1,6 +1,4 @@
--- The claims on the arithmetic, all proved: the value of the record of `specs/Claims.antt`.
--- Idea: each field is a law of Laws/.
--- Assumes nothing.
+-- Proves every field of `Claims`; each is a law of Laws/.
 use Rattle.trm_alu.specs.Claims.{Claims}
 use Rattle.trm_alu.proofs.Laws.Product.{mul-start, mul-end}
 use Rattle.trm_alu.proofs.Laws.Multiplier.{mul-step}

@@ -1,7 +1,7 @@
--- Arithmetic cases, computed: the paper's nine starred ones, some that tell wrong versions apart, and a row for each operation 0-10. The
--- one table that the paper asks for is `Starred` of trm_reference (D-46). Paper: "Bench cases". A row is an operation with B and A, what
--- was there before it (H, C, V), and R.d, H, N, Z, C, V after it. Assumes nothing.
---   rows      the table        AllHold rs   every row's outcome is what the row gives
+-- Arithmetic cases, computed: the paper's nine starred ones, some that distinguish wrong versions, and a row for each operation 0–10.
+-- Paper: "Bench cases"; the one table that the paper asks for is `Starred` of trm_reference (D-46).
+-- A row is an operation with B and A, then H, C, V before it, and R.d, H, N, Z, C, V after it.
+--   rows      the table        AllHold rs   the outcome of every row is what the row says
 use Prim.Native.Nat.{ℕ, _-_, _^_}
 use mathlib.Core.Path.{_≡_}
 use mathlib.Core.List.{List, [], _∷_}
@@ -34,7 +34,7 @@ row op b a gives = record { op = op; b = b; a = a; before = record { h = 0; c = 
 abbrev pub rowSet : ℕ → ℕ → ℕ → List ℕ → Row
 rowSet op b a gives = record { op = op; b = b; a = a; before = record { h = 5; c = 1; v = 1 }; gives = gives }
 
--- a negative number is written as 2^32 less its magnitude
+-- a negative number is written as 2^32 minus its magnitude
 unfoldable pub rows : List Row
 rows =
     -- * 0 − 1; 7FFFFFFFH + 1; 80000000H + 80000000H
@@ -49,17 +49,17 @@ rows =
     ∷ row 9 (2 ^ 32 - 7) 2 ((2 ^ 32 - 4) ∷ 1 ∷ 1 ∷ 0 ∷ 0 ∷ 0 ∷ [])
     ∷ row 9 (2 ^ 31) 1 ((2 ^ 31) ∷ 0 ∷ 1 ∷ 0 ∷ 0 ∷ 0 ∷ [])
     ∷ row 9 7 0 (0 ∷ 7 ∷ 0 ∷ 1 ∷ 0 ∷ 0 ∷ [])
-    -- −8 DIV 3, which tells a remainder from its complement; −2^31 − 1, which tells C from the unsigned borrow
+    -- −8 DIV 3 distinguishes a remainder from its complement; −2^31 − 1 distinguishes C from the unsigned borrow
     ∷ row 9 (2 ^ 32 - 8) 3 ((2 ^ 32 - 3) ∷ 1 ∷ 1 ∷ 0 ∷ 0 ∷ 0 ∷ [])
     ∷ row 3 (2 ^ 31) 1 (0x7FFF_FFFF ∷ 0 ∷ 0 ∷ 0 ∷ 1 ∷ 1 ∷ [])
-    -- −1 + 2 and −3 + 1, which tell C of ADD from the unsigned carry; 7FFFFFFFH − (−1), whose exact result 2^31 is too wide upwards
+    -- −1 + 2 and −3 + 1 distinguish C of ADD from the unsigned carry; the exact result of 7FFFFFFFH − (−1), 2^31, is too large
     ∷ row 2 (2 ^ 32 - 1) 2 (1 ∷ 0 ∷ 0 ∷ 0 ∷ 0 ∷ 0 ∷ [])
     ∷ row 2 (2 ^ 32 - 3) 1 ((2 ^ 32 - 2) ∷ 0 ∷ 1 ∷ 0 ∷ 1 ∷ 0 ∷ [])
     ∷ row 3 0x7FFF_FFFF (2 ^ 32 - 1) (0x8000_0000 ∷ 0 ∷ 1 ∷ 0 ∷ 0 ∷ 1 ∷ [])
     -- 7 DIV −2 and −7 DIV 80000000H: A is below 0, so R.d is 0 and H the dividend
     ∷ row 9 7 (2 ^ 32 - 2) (0 ∷ 7 ∷ 0 ∷ 1 ∷ 0 ∷ 0 ∷ [])
     ∷ row 9 (2 ^ 32 - 7) 0x8000_0000 (0 ∷ (2 ^ 32 - 7) ∷ 0 ∷ 1 ∷ 0 ∷ 0 ∷ [])
-    -- 10000H × 8000H is 2^31: N is bit 31 of the low word, the high word being 0
+    -- 10000H × 8000H is 2^31: N is bit 31 of the low word, and the high word is 0
     ∷ row 8 0x1_0000 0x8000 (0x8000_0000 ∷ 0 ∷ 1 ∷ 0 ∷ 0 ∷ 0 ∷ [])
     -- C and V change only in ADD, SUB and (C alone) ROR, and H only in MUL and DIV: each operation with H 5, C 1, V 1 before it
     ∷ rowSet 0 9 0 (0 ∷ 5 ∷ 0 ∷ 1 ∷ 1 ∷ 1 ∷ [])

@@ -1,6 +1,5 @@
--- What is claimed of the arithmetic beside the contracts: one statement to a field.
--- Paper: "Clock by clock" (the registers after k steps), "9 DIV", "Bench cases". The value is in proofs/Theorems.antt.
--- Assumes nothing.
+-- Claims about the arithmetic beyond the contracts: one statement per field.
+-- Paper: "Clock by clock" (the registers after k steps), "9 DIV", "Bench cases". Proved in proofs/Theorems.antt.
 use Prim.Native.Nat.{ℕ, _+_, _/_, _%_, _^_, _<_}
 use mathlib.Core.Path.{_≡_}
 use mathlib.Core.Bool.{true}

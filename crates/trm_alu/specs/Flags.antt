@@ -1,9 +1,9 @@
--- N Z C V after operations 0-10, as numbers 0 or 1.
+-- N Z C V after operations 0–10, as numbers 0 or 1.
 -- Paper: "N and Z are taken from the 32-bit result of 0–10. Among 0–10, C and V change only here: after ADD and SUB, C is 1
--- when the exact signed result is negative and V is 1 when it does not fit 32 bits; after ROR, C is bit 0 of the result." Assumes nothing.
+-- when the exact signed result is negative and V is 1 when it does not fit 32 bits; after ROR, C is bit 0 of the result."
 --   carryOfAdd, carryOfSub         C after ADD, after SUB
 --   overflowOfAdd, overflowOfSub   V after ADD, after SUB
---   flagsAfter op a b r c v        all four, r being the result, c and v those before
+--   flagsAfter op a b r c v        all four; r is the result, c and v are C and V before
 use Prim.Native.Nat.{ℕ, _%_, _^_}
 use mathlib.Core.Bool.{Bool, true, false, cond}
 use lib.Dec.{leb, eqb}
@@ -53,6 +53,6 @@ unfoldable pub flagsAfter : ℕ → ℕ → ℕ → ℕ → ℕ → ℕ → Flag
 flagsAfter op a b r c v =
     record { n = signFlag r; z = zeroFlag r; c = carryAfter op a b r c; v = overflowAfter op a b v }
 
--- the flags of operation op: those of its own result
+-- the flags after operation op, from its own result
 unfoldable pub flagsOf : ℕ → ℕ → ℕ → ℕ → ℕ → Flags
 flagsOf op a b c v = flagsAfter op a b (resultOf op a b) c v

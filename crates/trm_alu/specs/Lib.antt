@@ -1,6 +1,5 @@
 -- The definitions of the arithmetic, in reading order.
 -- Paper: "What a programmer sees", operations 0-10; "Clock by clock", multiplier and divider.
--- Assumes nothing.
 pub mod Word
 pub mod Multiply
 pub mod Divide

@@ -1,10 +1,9 @@
 -- MUL: the signed product, its two words, and the multiplier's 64-bit register step by step.
 -- Paper: "8 MUL: signed 64-bit product, low word to R.d, high word to H"; "After k multiplier steps .."
--- Assumes nothing.
 --   product a b        the signed product
 --   lowWord, highWord  its two words
 --   mulAfter a b k     the register after k steps, as a 64-bit word
---   mulStep acc b last the register after one step more, for any register
+--   mulStep acc b last the register after one more step, from any register
 use Prim.Native.Nat.{ℕ, _+_, _-_, _*_, _/_, _%_, _^_}
 use mathlib.Core.Bool.{Bool, cond}
 use lib.Dec.{ltb}
@@ -28,15 +27,15 @@ partialProduct a b k = signed b *ℤ pos (a % 2 ^ k * 2 ^ (32 - k)) +ℤ pos (a 
 unfoldable pub mulAfter : ℕ → ℕ → ℕ → ℕ
 mulAfter a b k = word 64 (cond (ltb k 32) (partialProduct a b k) (product a b))
 
--- the register one place to the right, its sign staying
+-- the register shifted right by one, arithmetically
 unfoldable pub shiftedRight : ℕ → ℕ
 shiftedRight acc = acc / 2 + acc / 2 ^ 63 * 2 ^ 63
 
--- B at the upper half, once that is shifted
+-- B at the place of the upper half after the shift
 unfoldable pub upperHalf : ℕ → ℕ
 upperHalf b = word 64 (signed b *ℤ pos (2 ^ 31))
 
--- One add-and-shift step: shift, and where the bit that left is set add B to the upper half; the last step takes it off.
+-- One add-and-shift step: shift, and if the bit shifted out is set, add B to the upper half; the last step subtracts it.
 -- The product of a bit and a 64-bit word is below 2^64, so the difference does not truncate.
 unfoldable pub mulStep : ℕ → ℕ → Bool → ℕ
 mulStep acc b last =

@@ -1,6 +1,6 @@
--- The results of operations 0-10: what they put into R.d and H.
+-- The results of operations 0–10: what they write to R.d and H.
 -- Paper: "What a programmer sees", the list from 0 MOV to 9 DIV. A is R.s, the literal, or H for MOV from H (`operandA` of
--- trm_reference); B is R.d. Assumes nothing.
+-- trm_reference); B is R.d.
 --   resultOf op a b    R.d after operation op
 --   highOf op a b h    H after operation op, h before it
 use Prim.Native.Nat.{ℕ, _+_, _-_, _*_, _/_, _%_, _^_}
@@ -14,7 +14,7 @@ use Rattle.trm_alu.specs.Word.{signed, word}
 use Rattle.trm_alu.specs.Multiply.{product, lowWord, highWord}
 use Rattle.trm_alu.specs.Divide.{quotient, remainder}
 
--- the exact signed results of ADD and SUB, before they are cut to 32 bits
+-- the exact signed results of ADD and SUB, before they are truncated to 32 bits
 unfoldable pub exactSum : ℕ → ℕ → ℤ
 exactSum a b = signed b +ℤ signed a
 
@@ -27,7 +27,7 @@ sum a b = word 32 (exactSum a b)
 unfoldable pub difference : ℕ → ℕ → ℕ
 difference a b = word 32 (exactDifference a b)
 
--- every bit of the word a turned; a is below 2^32
+-- every bit of the word a inverted; a is below 2^32
 abbrev pub notWord : ℕ → ℕ
 notWord a = 2 ^ 32 - 1 - a
 
@@ -39,7 +39,7 @@ bic a b = bitAnd b (notWord a)
 unfoldable pub ror : ℕ → ℕ → ℕ
 ror a b = b / 2 ^ (a % 32) + b % 2 ^ (a % 32) * 2 ^ (32 - a % 32)
 
--- 0 MOV, 1 NOT, 2 ADD, 3 SUB, 4 AND, 5 BIC, 6 OR, 7 XOR, and 10 ROR, which is what is left when 8 and 9 are not asked
+-- 0 MOV, 1 NOT, 2 ADD, 3 SUB, 4 AND, 5 BIC, 6 OR, 7 XOR, and by default 10 ROR; not used for 8 and 9
 unfoldable pub shortResult : ℕ → ℕ → ℕ → ℕ
 shortResult op a b =
     getD

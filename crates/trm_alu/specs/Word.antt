@@ -1,16 +1,15 @@
--- Words and the signed numbers that they stand for, two's complement.
+-- Words and the signed numbers that they represent, in two's complement.
 -- Paper: registers and operands are 32-bit words; MUL, DIV, ADD and SUB take them as signed.
--- Assumes nothing.
 --   signed n   the signed number of the 32-bit word n
 --   word k z   the low k bits of the signed number z
---   biased n   the signed number of the word n, plus 2^31: how the code holds it
+--   biased n   the signed number of the word n, plus 2^31: its representation in the code
 --   flag t     1 if t holds, else 0
 use Prim.Native.Nat.{ℕ, suc, _+_, _-_, _%_, _^_}
 use mathlib.Core.Bool.{Bool, cond}
 use lib.Dec.{ltb}
 use lib.IntN.{ℤ, pos, negsuc}
 
--- from 2^31 on a word stands for n − 2^32, which is −(2^32 − n); `negsuc m` is −(m + 1). n is below 2^32.
+-- from 2^31 on a word represents n − 2^32, which is −(2^32 − n); `negsuc m` is −(m + 1). n is below 2^32.
 unfoldable pub signed : ℕ → ℤ
 signed n = cond (ltb n (2 ^ 31)) (pos n) (negsuc (2 ^ 32 - suc n))
 

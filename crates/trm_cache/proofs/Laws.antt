@@ -1,6 +1,5 @@
--- The laws of the cache's definitions, one theme to a file.
--- Idea: callers use these and never unfold the cache.
--- Assumes nothing.
+-- Laws about the cache, one topic per file.
+-- Other proofs use these and never unfold the definitions of the cache.
 pub mod Lines
 pub mod Cache
 pub mod Bursts

@@ -1,6 +1,4 @@
--- The claims on the cache, all proved: the value of the record of `specs/Claims.antt`.
--- Idea: each field is a law of Laws/.
--- Assumes nothing.
+-- Proves every field of `Claims`; each is a law of Laws/.
 use Rattle.trm_cache.specs.Claims.{Claims}
 use Rattle.trm_cache.proofs.Laws.Copy.{write-is-copy, fill-is-copy, fill-other-lines, fill-marks}
 use Rattle.trm_cache.proofs.Laws.Tables.{steps-hold}

@@ -1,8 +1,8 @@
--- The cache: its four arrays, one line of them, memory as seen through it, and the steps on it.
+-- The cache: its four arrays, one line, memory as seen through it, and the steps on it.
 -- Paper: "The cache has 16 lines of 8 words, write-back"; "A line is empty while it refills and clean after either ten. An empty line is
--- clean with block 0, its old words staying until overwritten"; "a full line's word standing before the store's". Assumes nothing.
---   lineAt G ca l   line l        holds ln b   a full line has block b        view G ca s a   memory word a        copyOf   all words
---   emptied, cleaned, filled, withWord, storedTo   the cache with one line changed
+-- clean with block 0, its old words staying until overwritten"; "a full line's word standing before the store's".
+--   lineAt G ca l   line l        holds ln b   the line is full with block b        view G ca s a   memory word a        copyOf   all words
+--   emptied, cleaned, filled, withWord, storedTo   the cache after a change of one line
 --   writeWord, fillWord   one clock of a burst      countDirty, firstDirty, allEmptied   for turning the cache off
 use Prim.Native.Nat.{ℕ, zero, suc, _+_, _-_, _*_, _%_}
 use mathlib.Core.Bool.{Bool, cond, _&&_}
@@ -13,7 +13,7 @@ use Rattle.trm_word.specs.Condition.{isSet}
 use Rattle.trm_reference.specs.Geometry.{Geometry, blockOf, lineOf}
 use Rattle.trm_reference.specs.History.{howMany}
 
--- for each line full, dirty and block; the words of all lines
+-- per line full, dirty and block; the words of all lines
 pub record Cache : Type 0 where
   pub full : List ℕ
   pub dirty : List ℕ
@@ -29,11 +29,11 @@ pub record Line : Type 0 where
   pub block : ℕ
   pub words : List ℕ
 
--- the places of one line in the array of words
+-- the number of array elements that one line takes in the array of words
 abbrev pub stride : Geometry → ℕ
 stride G = G .words
 
--- the arrays are as long as there are lines, so the defaults are not reached
+-- the arrays have an element per line, so the defaults are not reached
 unfoldable pub lineAt : Geometry → Cache → ℕ → Line
 lineAt G ca l =
     record {
@@ -46,7 +46,7 @@ lineAt G ca l =
 unfoldable pub holds : Line → ℕ → Bool
 holds ln b = ln .full && eqb (ln .block) b
 
--- "a full line's word standing before the store's": word a through its line
+-- "a full line's word standing before the store's": word a as seen through its line
 unfoldable pub lineView : Geometry → Line → List ℕ → ℕ → ℕ
 lineView G ln s a = cond (holds ln (blockOf G a)) (getD (ln .words) (a % G .words) 0) (getD s a 0)
 
@@ -76,20 +76,20 @@ filled ca l b = cache (set (ca .full) l 1) (set (ca .dirty) l 0) (set (ca .block
 abbrev pub withWord : Geometry → Cache → ℕ → ℕ → ℕ → Cache
 withWord G ca l i x = cache (ca .full) (ca .dirty) (ca .block) (set (ca .words) (l * stride G + i) x)
 
--- ST to a block in its line: the word, and the line is dirty
+-- ST that hits: the word is written and the line is dirty
 abbrev pub storedTo : Geometry → Cache → ℕ → ℕ → ℕ → Cache
 storedTo G ca l i x =
     cache (ca .full) (set (ca .dirty) l 1) (ca .block) (set (ca .words) (l * stride G + i) x)
 
--- "Each ten is two waits and eight words in rising order": the store after a clock of a write-back, k of its clocks being done;
--- where a word is moved k is at or above the waits, so the difference does not truncate
+-- "Each ten is two waits and eight words in rising order": the store after one more clock of a write-back, k clocks of
+-- which are done; if a word is moved k is at least the waits, so the difference does not truncate
 unfoldable pub writeWord : Geometry → Line → List ℕ → ℕ → List ℕ
 writeWord G ln s k =
     cond (leb (G .waits) k)
     (set s (ln .block * G .words + (k - G .waits)) (getD (ln .words) (k - G .waits) 0))
     s
 
--- the cache after a clock of a refill of line l with block b, k of its clocks being done
+-- the cache after one more clock of the refill of line l with block b, k clocks of which are done
 unfoldable pub fillWord : Geometry → Cache → ℕ → List ℕ → ℕ → ℕ → Cache
 fillWord G ca l s b k =
     cond (leb (G .waits) k) (withWord G ca l (k - G .waits) (getD s (b * G .words + (k - G .waits)) 0)) ca

@@ -1,7 +1,6 @@
--- A burst clock after clock, and the one block copy that all of its clocks come to: of a line to the store, of the store to a line.
+-- A burst clock by clock, and the block copy that it amounts to: from a line to the store, or from the store to a line.
 -- Paper: "Each ten is two waits and eight words in rising order"; "The cache has 16 lines of 8 words, write-back".
--- Assumes nothing.
---   writes, fills   the store, the cache after the first k clocks      copied   the store with a line's block       blockWords   a block
+--   writes, fills   the store or the cache after the first k clocks      copied   the store with a line copied in      blockWords   a block
 use Prim.Native.Nat.{ℕ, zero, suc, _+_, _*_}
 use mathlib.Core.List.{List, _++_}
 use lib.ListN.{take, drop}

@@ -1,4 +1,3 @@
--- The calls in definitions: what each gives on every input.
+-- The outcome of reset, clock and run on every input.
 -- Paper: "Where calls are turned down"; "The clock call takes the record and returns it".
--- Assumes nothing.
 pub mod Promises

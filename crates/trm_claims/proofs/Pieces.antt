@@ -1,6 +1,5 @@
--- The pieces of a listing are the output.
--- Idea: what is written and what is to be written is the output, after each piece.
--- Assumes nothing.
+-- The pieces of a listing, joined, are the output.
+-- Idea: after each piece, what has been written and what is left to write are together the output.
 use Prim.Native.Nat.{ℕ}
 use mathlib.Core.Path.{_≡_, refl, sym, ap, _∙_}
 use mathlib.Core.Bool.{true}

@@ -1,6 +1,5 @@
--- Every claim of the project, proved: the value of the record of `specs/Claims.antt`.
+-- Every claim of the project, proved: the value of the record `Claims` of specs/Claims.antt.
 -- Idea: each field is the value of a crate's own claims, or a law of this crate.
--- Assumes nothing.
 use Rattle.trm_word.proofs.Theorems.{theorems as word-theorems}
 use Rattle.trm_codec.proofs.Theorems.{theorems as codec-theorems}
 use Rattle.trm_alu.proofs.Theorems.{theorems as alu-theorems}
@@ -9,7 +8,7 @@ use Rattle.trm_cache.proofs.Theorems.{theorems as cache-theorems}
 use Rattle.trm_core.proofs.Theorems.{theorems as core-theorems}
 use Rattle.trm_agreement.proofs.Theorems.{theorems as agreement-theorems}
 use Rattle.trm_image.proofs.Theorems.{theorems as image-theorems}
-use Rattle.trm_text.proofs.Theorems.{theorems as text-theorems}
+use Rattle.trm_list_text.proofs.Theorems.{theorems as text-theorems}
 use Rattle.trm_listing.proofs.Theorems.{theorems as listing-theorems}
 use Rattle.trm_claims.specs.Claims.{Claims}
 use Rattle.trm_claims.proofs.Pieces.{pieces-are-output}

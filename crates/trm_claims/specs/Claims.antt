@@ -1,6 +1,6 @@
--- EVERY CLAIM of the project beside the functions' contracts: a field for the claims of each crate that has any, and what is claimed here.
--- Demand 3 is `demand-3` of `agreement`; demand 2's claims are those of `alu`, `codec` and `core`. The value is in
--- proofs/Theorems.antt. Assumes nothing.
+-- EVERY CLAIM of the project in addition to the contracts: a field for the claims of each crate that has any, and for those of this one.
+-- Demand 3 is `demand-3` of `agreement`; the claims of demand 2 are those of `alu`, `codec` and `core`. The value is in
+-- proofs/Theorems.antt.
 use Rattle.trm_word.specs.Claims.{Claims as WordClaims}
 use Rattle.trm_codec.specs.Claims.{Claims as CodecClaims}
 use Rattle.trm_alu.specs.Claims.{Claims as AluClaims}
@@ -9,7 +9,7 @@ use Rattle.trm_cache.specs.Claims.{Claims as CacheClaims}
 use Rattle.trm_core.specs.Claims.{Claims as CoreClaims}
 use Rattle.trm_agreement.specs.Claims.{Claims as AgreementClaims}
 use Rattle.trm_image.specs.Claims.{Claims as ImageClaims}
-use Rattle.trm_text.specs.Claims.{Claims as TextClaims}
+use Rattle.trm_list_text.specs.Claims.{Claims as TextClaims}
 use Rattle.trm_listing.specs.Claims.{Claims as ListingClaims}
 use Rattle.trm_claims.specs.Pieces.{PiecesAreOutput}
 
@@ -30,9 +30,9 @@ pub record Claims : Type 0 where
   pub agreement : AgreementClaims
   -- which bytes are images
   pub image : ImageClaims
-  -- the bytes of a line
+  -- the bytes of a row
   pub text : TextClaims
-  -- listings written out
+  -- whole listings, computed
   pub listing : ListingClaims
-  -- the pieces of a listing are the output
+  -- the pieces of a listing, joined, are the output
   pub pieces-are-output : PiecesAreOutput

@@ -1,6 +1,6 @@
--- The laws, one theme to a file.
--- `Masks`: a word under a mask of ranges of bits; `Operations`: numbers and operations are inverse;
--- `Numbers`: the paper's numbers; `Recode`, `RoundTrip`: the two inverses of decode and encode. Assumes nothing.
+-- Laws about decode and encode, one topic per file.
+-- `Masks`: a word under a mask of bit ranges. `Operations`: numbers and operations are inverse. `Numbers`: refusal numbers and values.
+-- `Recode`, `RoundTrip`: the two inverses of decode and encode. `Fields`, `Plain`: the same for instructions as plain numbers.
 pub mod Masks
 pub mod Operations
 pub mod Numbers

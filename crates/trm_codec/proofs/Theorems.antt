@@ -1,6 +1,5 @@
--- The value of the claims on decode and encode: every field of `Claims` is proved.
--- The two inverses and the refusals are in Laws; the table of words computes.
--- Assumes nothing.
+-- Proves every field of `Claims`.
+-- The inverses and the refusals are laws; the table of words computes.
 use mathlib.Core.Path.{refl}
 use Rattle.trm_codec.specs.Decode.{arithmeticOf, controlOf, instructionOf, decodeOf}
 use Rattle.trm_codec.specs.Encode.{encodeOf}

@@ -1,6 +1,5 @@
--- What is claimed of decode and encode beside their contracts: one statement to a field.
--- Paper: "Unused bits encode as zero"; rows 3 and 10. README, demand 2: decode and encode are inverse. Value: proofs/Theorems.antt.
--- Assumes nothing.
+-- Claims about decode and encode beyond their contracts: one statement per field.
+-- Paper: "Unused bits encode as zero"; rows 3 and 10. README, demand 2: decode and encode are inverse. Proved in proofs/Theorems.antt.
 use Prim.Native.Nat.{ℕ, _^_, _<_}
 use mathlib.Core.Path.{_≡_}
 use Rattle.trm_codec.specs.declared.instruction.Instruction.{Instruction}
@@ -10,7 +9,7 @@ use Rattle.trm_codec.specs.Decode.{decodeOf}
 use Rattle.trm_codec.specs.Encode.{encodeOf}
 use Rattle.trm_codec.specs.Unused.{unusedZero}
 use Rattle.trm_codec.specs.Refusals.{decodeNumber, encodeNumber, wordRefusal, instructionRefusal}
-use Rattle.trm_codec.specs.declared.fields.Fields.{Fields}
+use Rattle.trm_codec.specs.declared.plain_fields.Fields.{Fields}
 use Rattle.trm_codec.specs.Plain.{fieldsGiven, fieldsRefusal, wordGiven}
 use Rattle.trm_codec.specs.Worked.{rows, RowsHold}
 
@@ -36,15 +35,15 @@ DecodeRefuses = (w : ℕ) → decodeNumber (decodeOf w) ≡ wordRefusal w
 abbrev pub EncodeRefuses : Type 0
 EncodeRefuses = (i : Instruction) → encodeNumber (encodeOf i) ≡ instructionRefusal i
 
--- The worked words hold.
+-- Every row of the table of worked words holds.
 abbrev pub WordsHold : Type 0
 WordsHold = RowsHold rows
 
--- The same of an instruction as plain numbers: the word that accepted fields give, decoded, gives these fields.
+-- With plain numbers: accepted fields encode to a word that decodes to these fields.
 abbrev pub PlainDecode : Type 0
 PlainDecode = (f : Fields) → fieldsRefusal f ≡ 0 → (wordRefusal (wordGiven f) ≡ 0) × (fieldsGiven (wordGiven f) ≡ f)
 
--- And the fields that a word gives are accepted, and give the word with its unused bits zero.
+-- With plain numbers: the fields of a word are accepted, and encode to the word with its unused bits zero.
 abbrev pub PlainEncode : Type 0
 PlainEncode = (w : ℕ) → w < 2 ^ 18 → (fieldsRefusal (fieldsGiven w) ≡ 0) × (wordGiven (fieldsGiven w) ≡ unusedZero w)
 

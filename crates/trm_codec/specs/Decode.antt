@@ -1,6 +1,5 @@
--- Decode: the instruction that a word stands for, or the refusal 3.
+-- Decode: the instruction that a word encodes, or the refusal 3.
 -- Paper: "What a programmer sees", the format of each operation; row 3, "one above 3FFFFH, a lone word to decode included".
--- Assumes nothing.
 --   decodeOf w   the answer       instructionOf w   the instruction of a word below 2^18
 use Prim.Native.Nat.{ℕ, _-_}
 use mathlib.Core.Bool.{cond}
@@ -47,7 +46,7 @@ otherForms w =
     ∷ Branch (condition w) (branchOffset w)
     ∷ []
 
--- the range 0–10 first, then 11 to 14; what is left is 15
+-- 0–10, then 11 to 14; the default is 15
 unfoldable pub instructionOf : ℕ → Instruction
 instructionOf w =
     cond (ltb (operation w) 11) (arithmeticOf w) (getD (otherForms w) (operation w - 11) (Call (callOffset w)))

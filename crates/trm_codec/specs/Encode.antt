@@ -1,7 +1,6 @@
 -- Encode: the word of an instruction, its unused bits zero, or the refusal 10.
 -- Paper: "What a programmer sees", the format of each operation; "Unused bits encode as zero; RTI encodes as 01"; row 10.
--- Assumes nothing.
---   encodeOf i   the answer       fits i   every field is inside its width       placed i   the fields at their bits
+--   encodeOf i   the answer       fits i   every field fits its width       placed i   the fields at their bits
 use Prim.Native.Nat.{ℕ, _+_, _*_, _^_}
 use mathlib.Core.Bool.{Bool, cond, _&&_}
 use lib.Dec.{ltb}
@@ -35,7 +34,7 @@ fits (Store d s offset) = memoryFits d s offset
 fits (Branch condition offset) = ltb condition 16 && ltb offset 1024
 fits (Call offset) = ltb offset 4096
 
--- bit 10 is set for a register; bit 3 beside it is H
+-- bit 10 is set for a register; with bit 3 set as well the operand is H
 abbrev pub operandPlaced : Operand → ℕ
 operandPlaced (Register s) = 2 ^ 10 + s
 operandPlaced (Literal n) = n
@@ -62,6 +61,6 @@ encodedAs ok w = cond ok (E.Word w) E.Refused
 unfoldable pub encodeOf : Instruction → Encoded
 encodeOf i = encodedAs (fits i) (placed i)
 
--- LD and ST alike, by their number
+-- LD and ST; op is 12 or 13
 abbrev pub memoryEncoded : ℕ → ℕ → ℕ → ℕ → Encoded
 memoryEncoded op d s offset = encodedAs (memoryFits d s offset) (memoryPlaced op d s offset)

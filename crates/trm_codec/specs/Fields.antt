@@ -1,7 +1,7 @@
--- An instruction as plain numbers, as C passes it: a form, and a field for each part that some form has.
--- Paper: "What a programmer sees", the format of each operation; row 10, "a field outside its width". Assumes nothing.
+-- An instruction as plain numbers, as C passes it: the number of its form, and a field for each part that some form has.
+-- Paper: "What a programmer sees", the format of each operation; row 10, "a field outside its width".
 --   fieldsOf i   the fields of an instruction          instructionAt f   the instruction of these fields
---   fieldsFit f  they are an instruction's, each inside its width; one that the form does not have is 0
+--   fieldsFit f  they are those of an instruction, each within its width; a field that the form does not have is 0
 use Prim.Native.Nat.{ℕ}
 use mathlib.Core.Bool.{Bool, _&&_}
 use mathlib.Core.List.{List, [], _∷_}
@@ -14,7 +14,7 @@ use Rattle.trm_codec.specs.declared.instruction.Instruction.the-variants
 use Rattle.trm_codec.specs.declared.instruction.Instruction.the-variants.{ReturnFromInterrupt, Load, Store, Branch, Call}
 use Rattle.trm_codec.specs.Operations.{operationAt, numberOf}
 use Rattle.trm_codec.specs.Encode.{fits}
-use Rattle.trm_codec.specs.declared.fields.Fields.{Fields}
+use Rattle.trm_codec.specs.declared.plain_fields.Fields.{Fields}
 
 abbrev pub arithmeticFields : ℕ → ℕ → Operand → Fields
 arithmeticFields op d (Register s) = record { form = 0; operation = op; condition = 0; d = d; s = s; value = 0 }
@@ -52,7 +52,7 @@ forms f =
     ∷ Branch (f .condition) (f .value)
     ∷ []
 
--- 10 is a call
+-- the default, form 10, is a call
 abbrev pub instructionAt : Fields → Instruction
 instructionAt f = getD (forms f) (f .form) (Call (f .value))
 
@@ -63,7 +63,7 @@ sameFields f g =
     && (eqb (f .condition) (g .condition)
     && (eqb (f .d) (g .d) && (eqb (f .s) (g .s) && eqb (f .value) (g .value)))))
 
--- a form above 10, an operation above 10 and a number in a field that the form does not have are outside their widths too: the fields
--- are then not those of the instruction
+-- false also for a form above 10, an operation above 10 and a nonzero field that the form does not have: then the fields are not those of
+-- the instruction
 unfoldable pub fieldsFit : Fields → Bool
 fieldsFit f = sameFields f (fieldsOf (instructionAt f)) && fits (instructionAt f)

@@ -1,6 +1,5 @@
 -- The definitions of decode and encode, in reading order.
 -- Paper: "What a programmer sees", the formats; "Where calls are turned down", rows 3 and 10.
--- Assumes nothing.
 pub mod Operations
 pub mod Decode
 pub mod Encode

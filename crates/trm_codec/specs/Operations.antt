@@ -1,6 +1,5 @@
--- The operations 0-10 and their numbers.
+-- The operations 0–10 and their numbers.
 -- Paper: "0 MOV .. 1 NOT A. 2 ADD. 3 SUB, B−A. 4 AND. 5 BIC .. 6 OR. 7 XOR. 10 ROR ..; 8 MUL ..; 9 DIV".
--- Assumes nothing.
 --   operationAt n   the operation of number n, 0 to 10       numberOf o   the number of operation o
 use Prim.Native.Nat.{ℕ}
 use mathlib.Core.List.{List, [], _∷_}

@@ -1,7 +1,7 @@
--- What decode and encode give on every input, with enums and with plain numbers for a C caller: the whole promise of each call.
--- Paper: "Where calls are turned down", rows 3 and 10. Assumes nothing.
---   Decodes w r, Encodes i r              of decode and encode, r being the answer
---   DecodesPlain w r, EncodesPlain f r    of the two with plain numbers
+-- The contracts of decode and encode: what they give on every input, with enums, and with plain numbers for a C caller.
+-- Paper: "Where calls are turned down", rows 3 and 10.
+--   Decodes w r, Encodes i r              decode and encode answer r
+--   DecodesPlain w r, EncodesPlain f r    the same with plain numbers
 use Prim.Native.Nat.{ℕ}
 use mathlib.Core.Path.{_≡_}
 use mathlib.Core.Bool.{cond}
@@ -9,9 +9,9 @@ use lib.Dec.{ltb}
 use Rattle.trm_codec.specs.declared.instruction.Instruction.{Instruction}
 use Rattle.trm_codec.specs.declared.instruction.Decoded.{Decoded}
 use Rattle.trm_codec.specs.declared.instruction.Encoded.{Encoded}
-use Rattle.trm_codec.specs.declared.fields.Fields.{Fields}
-use Rattle.trm_codec.specs.declared.plain.PlainDecoded.{PlainDecoded}
-use Rattle.trm_codec.specs.declared.plain.PlainEncoded.{PlainEncoded}
+use Rattle.trm_codec.specs.declared.plain_fields.Fields.{Fields}
+use Rattle.trm_codec.specs.declared.plain_codec.PlainDecoded.{PlainDecoded}
+use Rattle.trm_codec.specs.declared.plain_codec.PlainEncoded.{PlainEncoded}
 use Rattle.trm_codec.specs.Decode.{decodeOf}
 use Rattle.trm_codec.specs.Encode.{fits, placed, encodeOf}
 use Rattle.trm_codec.specs.Unused.{unusedZero}

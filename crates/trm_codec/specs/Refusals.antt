@@ -1,6 +1,5 @@
--- The paper's numbers and values for the answers of decode and encode.
--- Paper: "Where calls are turned down", rows 3 and 10. The number 0 is no refusal.
--- Assumes nothing.
+-- The refusal number and the value of each answer of decode and encode.
+-- Paper: "Where calls are turned down", rows 3 and 10. The number 0 means accepted.
 --   wordRefusal, instructionRefusal   the number that a word or an instruction gets
 use Prim.Native.Nat.{ℕ}
 use mathlib.Core.Bool.{cond}
@@ -16,7 +15,7 @@ abbrev pub decodeNumber : Decoded → ℕ
 decodeNumber (D.Instruction i) = 0
 decodeNumber D.Refused = 3
 
--- the instruction of an answer as a number, the word that it encodes to; a refusal has none, and counts as 0
+-- the instruction of an answer as the word that it encodes to; 0 for a refusal
 abbrev pub decodeValue : Decoded → ℕ
 decodeValue (D.Instruction i) = placed i
 decodeValue D.Refused = 0
@@ -25,7 +24,7 @@ abbrev pub encodeNumber : Encoded → ℕ
 encodeNumber (E.Word w) = 0
 encodeNumber E.Refused = 10
 
--- the word of an answer; a refusal has none, and counts as 0
+-- the word of an answer; 0 for a refusal
 abbrev pub encodeValue : Encoded → ℕ
 encodeValue (E.Word w) = w
 encodeValue E.Refused = 0

@@ -1,6 +1,5 @@
 -- The bits that a word's form uses, as a table of masks, and a word with its unused bits made zero.
--- Paper: "Unused bits encode as zero; RTI encodes as 01". An unused bit is one that no reading of the word in its form uses.
--- Assumes nothing.
+-- Paper: "Unused bits encode as zero; RTI encodes as 01". A bit is unused if no field of the word's form contains it.
 --   usedBits w     the mask of the form that w has       unusedZero w   w with every unused bit zero
 use Prim.Native.Nat.{ℕ, _-_}
 use mathlib.Core.Bool.{cond}
@@ -10,11 +9,11 @@ use lib.ListN.{getD}
 use lib.Bits.{bitAnd}
 use Rattle.trm_word.specs.Fields.{bit, movesHigh, operation, jumpForm}
 
--- 0–10. MOV H: bits 17–10 and 3 (9–4 and s unused). Register: bits 17–10 and s (9–3 unused; of MOV 9–4, bit 3 being 0). Literal: all.
+-- 0–10. MOV H: bits 17–10 and 3 (9–4 and s unused). Register: bits 17–10 and s (9–3 unused; for MOV bit 3 is 0). Literal: all.
 abbrev pub usedArithmetic : ℕ → ℕ
 usedArithmetic w = cond (movesHigh w) 0x3FC08 (cond (eqb (bit 10 w) 1) 0x3FC07 0x3FFFF)
 
--- 11. Bit 10 clear: bits 17–14, 10 and 3–0. Bit 10 set: bits 17–14, 10, 9–8 and s; d where bits 9–8 are 10; RTI not bit 9.
+-- 11. Bit 10 clear: bits 17–14, 10 and 3–0. Bit 10 set: bits 17–14, 10, 9–8 and s; d where bits 9–8 are 10; RTI without bit 9.
 abbrev pub usedControl : ℕ → ℕ
 usedControl w =
     cond (eqb (bit 10 w) 0) 0x3C40F (cond (eqb (jumpForm w) 0) 0x3C707 (cond (eqb (jumpForm w) 2) 0x3FF07 0x3C507))

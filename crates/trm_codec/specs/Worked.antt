@@ -1,7 +1,6 @@
--- Words worked out from the paper's formats by hand, one for each operation and form.
+-- Words encoded by hand from the paper's formats, one for each operation and form.
 -- Paper: the example image (00005H, 20003H, 3BBFFH), 3BC00H "branch never".
--- Assumes nothing.
---   rows   a word and its instruction       RowsHold rs   each decodes to it and is what it encodes as
+--   rows   a word and its instruction       RowsHold rs   each word decodes to its instruction, which encodes to it
 use Prim.Native.Nat.{ℕ}
 use mathlib.Core.Path.{_≡_}
 use mathlib.Core.List.{List, [], _∷_}

@@ -1,6 +1,6 @@
-// Decode: the instruction that an 18-bit word stands for.
+// Decode: the instruction that an 18-bit word encodes.
 // Paper: "Operation = bits 17-14, d = bits 13-11, s = bits 2-0 ..", and the format of each operation after it.
-// Any caller, any word: the instruction, or the refusal 3 of a word above 3FFFFH.
+// Total: gives the instruction, or the refusal 3 for a word above 3FFFFH.
 ghost use mathlib.Core.Path.{_≡_};
 ghost use Rattle.trm_word.specs.Fields.{movesHigh};
 ghost use Rattle.trm_codec.specs.Decode.{operandOf, arithmeticOf, controlOf};
@@ -66,7 +66,7 @@ fn control(word: u32) -> Instruction
     }
 }
 
-// The instruction that a word stands for.
+// The instruction that a word encodes, or the refusal.
 pub fn decode(word: u32) -> Decoded
     ensures { λ r. ⌜ Decodes word r ⌝ }
 {

@@ -1,6 +1,6 @@
 // Encode: the 18-bit word of an instruction, its unused bits zero.
 // Paper: "Unused bits encode as zero; RTI encodes as 01"; row 10 of the refusals, "a field outside its width".
-// Any caller, any instruction: the word, or the refusal 10.
+// Total: gives the word, or the refusal 10.
 ghost use mathlib.Core.Path.{_≡_};
 ghost use lib.Dec.{ltb};
 ghost use Prim.Native.Nat.{_+_, _^_, _<_};
@@ -53,7 +53,7 @@ fn memory_word(number: u32, d: u32, s: u32, offset: u32) -> Encoded
     Encoded::Word(number * 0x4000 + d * 0x800 + offset * 8 + s)
 }
 
-// The word of a form with one field, at its lowest bits.
+// The word of a form whose one field is in the lowest bits; `limit` is the first value that does not fit.
 fn field_word(form: u32, field: u32, limit: u32) -> Encoded
     requires { ⌜ form + limit < 2 ^ 32 ⌝ }
     ensures { λ r. ⌜ r ≡ encodedAs (ltb field limit) (form + field) ⌝ }
@@ -100,7 +100,7 @@ fn branch_word(condition: u32, offset: u32) -> Encoded
     Encoded::Word(0x38000 + condition * 0x400 + offset)
 }
 
-// The word of an instruction; unused bits are zero.
+// The word of an instruction, unused bits zero, or the refusal.
 pub fn encode(instruction: Instruction) -> Encoded
     ensures { λ r. ⌜ Encodes instruction r ⌝ }
 {

@@ -1,6 +1,6 @@
-// The numbers of the operations 0-10, shared with the crates above.
+// The numbers of the operations 0-10, which other crates use too.
 // Paper: "0 MOV .. 1 NOT A. 2 ADD. 3 SUB .." and so on to 10 ROR.
-// A number above 10 is no operation of these: `operation_at` then answers the last one.
+// For a number above 10 `operation_at` gives the last one, ROR.
 ghost use mathlib.Core.Path.{_≡_};
 ghost use Prim.Native.Nat.{_<_};
 ghost use Rattle.trm_codec.specs.Operations.{numberOf, operationAt};

@@ -1,6 +1,6 @@
 // Instructions as values, and the answers of decode and encode.
 // Paper: "What a programmer sees", the format of each operation.
-// Every field has a type wider than its width in the word; encode tests each.
+// Every field has a type wider than its width in the word, so encode checks each.
 
 // The operations 0-10, in the order of their numbers.
 pub enum Operation {
@@ -23,7 +23,7 @@ pub enum Operand {
     Literal(u32),
 }
 
-// Each field is as it stands in the word; a branch's offset is its ten bits, which are signed.
+// Each field has the bits of the word; the ten bits of a branch's offset are two's complement.
 pub enum Instruction {
     Arithmetic {
         operation: Operation,
@@ -65,13 +65,13 @@ pub enum Instruction {
     },
 }
 
-// Refused is number 3.
+// `Refused` has the number 3.
 pub enum Decoded {
     Instruction(Instruction),
     Refused,
 }
 
-// Refused is number 10.
+// `Refused` has the number 10.
 pub enum Encoded {
     Word(u32),
     Refused,

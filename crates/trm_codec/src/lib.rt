@@ -1,9 +1,9 @@
-// Decode and encode: 18-bit words and the instructions that they stand for, for any caller.
+// Decode and encode: from 18-bit words to instructions and back.
 // Paper: "What a programmer sees", the format of each operation. README, demand 2: the two are inverse.
-// `decoder::decode` and `encoder::encode` are the two calls.
+// Read `decoder::decode` and `encoder::encode`; `plain_codec` has both for C callers.
 pub mod decoder;
 pub mod encoder;
-pub mod fields;
 pub mod inner;
 pub mod instruction;
-pub mod plain;
+pub mod plain_codec;
+pub mod plain_fields;

@@ -1,6 +1,5 @@
--- The laws of the clocked machine's definitions, one theme to a file.
--- Idea: callers use these and never unfold the clock.
--- Assumes nothing.
+-- Laws about the clocked machine, one topic per file.
+-- Other proofs use these and never unfold the clock.
 pub mod Fit
 pub mod Kind
 pub mod Deaf

@@ -1,5 +1,4 @@
--- The proofs of the clocked machine: laws of its definitions, and the claims.
+-- The laws of the clocked machine, and the proof of its claims.
 -- Nothing here need be read to know what is claimed.
--- Assumes nothing.
 pub mod Laws
 pub mod Theorems

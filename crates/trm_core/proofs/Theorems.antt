@@ -1,6 +1,4 @@
--- The claims on the clocked machine, all proved: the value of the record of `specs/Claims.antt`.
--- Idea: each field is a law of Laws/.
--- Assumes nothing.
+-- Proves every field of `Claims`; each is a law of Laws/.
 use Rattle.trm_core.specs.Claims.{Claims}
 use Rattle.trm_core.proofs.Laws.Table.{clock-table}
 use Rattle.trm_core.proofs.Laws.Kept.{record-kept}

@@ -1,6 +1,6 @@
--- What is claimed of the clocked machine beside the contracts: one statement to a field.
--- Paper: the clock table on any accepted record; row 5; "a device is read or written only in that clock". The value is in
--- proofs/Theorems.antt. Assumes nothing.
+-- Claims about the clocked machine beyond the contracts: one statement per field.
+-- Paper: the clock table on any accepted record; row 5; "a device is read or written only in that clock". Proved in
+-- proofs/Theorems.antt.
 use Prim.Native.Nat.{ℕ, _+_, _-_, _*_, _≤_}
 use mathlib.Core.Path.{_≡_}
 use mathlib.Core.Logic.{_≢_}
@@ -24,13 +24,13 @@ use Rattle.trm_cache.specs.Cache.{Cache, stride, countDirty}
 use Rattle.trm_core.specs.Record.{Lent, visibleOf, cacheOf, start}
 use Rattle.trm_core.specs.Clock.{chargeHere, carried, worked, heldClock, clockOf}
 use Rattle.trm_core.specs.Rule.{recordOk}
-use Rattle.trm_core.specs.Refusals.{allAtMost, linesRefused, storeOk, resetRefusal, clockRefusal}
+use Rattle.trm_core.specs.Refusals.{allAtMost, lineBytesRefused, storeOk, resetRefusal, clockRefusal}
 use Rattle.trm_core.specs.Scenario.{spread, recordDigest, referenceDigest, finishes, phases}
 use Rattle.trm_core.specs.Scenario.{expectedRecordDigest, expectedReferenceDigest, expectedFinishes, expectedPhases}
 use Rattle.trm_core.specs.Refused.{AllGive, rows}
 
--- The record's arrays hold sixteen registers and all lines. Of the record of the code, whose geometry is the paper's, its type says so:
--- `of-the-code` of trm_agreement has the claims below without it.
+-- The arrays of the record have room for sixteen registers and all lines. The type of the record in the code, which has the paper's
+-- geometry, ensures this: `of-the-code` of trm_agreement has the claims below without this hypothesis.
 pub record Shaped (G : Geometry) (m : Machine) : Type 0 where
   pub regs : 16 ≤ length (m .regs)
   pub full : G .lines ≤ length (m .full)
@@ -38,8 +38,8 @@ pub record Shaped (G : Geometry) (m : Machine) : Type 0 where
   pub block : G .lines ≤ length (m .block)
   pub words : G .lines * stride G ≤ length (m .words)
 
--- the unheld clocks still to come of the word at PC: its charge, and in flight what is left of it by phase and count; a count is
--- below what it is taken from in an accepted record, so the differences do not truncate
+-- the unheld clocks that the word at PC still needs: its charge if it has not begun, else the rest by phase and count; in an accepted
+-- record a count is below the number it is subtracted from, so the differences do not truncate
 unfoldable pub leftOf : Geometry → ℕ → ℕ → Running → Visible → Cache → ℕ
 leftOf G w n r v ca =
     cond (eqb (r .phase) 0) (chargeHere G w n v ca)
@@ -58,10 +58,10 @@ toCome G p x =
 -- the clock, if it is not held, takes an interrupt
 unfoldable pub acknowledges : Machine → Pins → Bool
 acknowledges m pins =
-    eqb (m .scalars .running .phase) 0 && not (eqb (interruptChosen (m .scalars .status) (pins .line)) 0)
+    eqb (m .scalars .running .phase) 0 && not (eqb (interruptChosen (m .scalars .status) (pins .lineByte)) 0)
 
--- The clock table on any accepted record: an unheld clock without an interrupt carries the word out iff one clock was to come, and
--- else leaves one fewer and answers nothing: so a load shows its device once.
+-- The clock table on any accepted record: an unheld clock without an interrupt executes the word if and only if one clock was left;
+-- otherwise one clock fewer is left and the answer is empty, so a load shows its device access once.
 pub record Counted (G : Geometry) (p : List ℕ) (x : Lent) (pins : Pins) : Type 0 where
   pub carries : clockOf G p x pins .out .done ≡ flag (eqb (toCome G p x) 1)
   pub silence : toCome G p x ≢ 1 → clockOf G p x pins .out ≡ silent 0
@@ -70,8 +70,8 @@ pub record Counted (G : Geometry) (p : List ℕ) (x : Lent) (pins : Pins) : Type
 abbrev pub ClockTable : Type 0
 ClockTable =
     (G : Geometry) (p : List ℕ) (x : Lent) (pins : Pins) → geometryOk G ≡ true → Shaped G (x .machine)
-    → clockRefusal G p (x .machine) (x .store) (pins .line) ≡ 0
-    → stalled (pins .line) ≡ false → acknowledges (x .machine) pins ≡ false
+    → clockRefusal G p (x .machine) (x .store) (pins .lineByte) ≡ 0
+    → stalled (pins .lineByte) ≡ false → acknowledges (x .machine) pins ≡ false
     → Counted G p x pins
 
 -- An accepted record stays accepted, with its store, after every accepted clock.
@@ -83,34 +83,34 @@ pub record Kept (G : Geometry) (p : List ℕ) (x : Lent) : Type 0 where
 abbrev pub RecordKept : Type 0
 RecordKept =
     (G : Geometry) (p : List ℕ) (x : Lent) (pins : Pins) → geometryOk G ≡ true → Shaped G (x .machine)
-    → clockRefusal G p (x .machine) (x .store) (pins .line) ≡ 0
+    → clockRefusal G p (x .machine) (x .store) (pins .lineByte) ≡ 0
     → Kept G p (clockOf G p x pins .state)
 
--- The record after an accepted reset is accepted: with `record-kept`, so is every record of a list.
+-- The record after an accepted reset is accepted; with `record-kept` so is every record that a list of calls reaches.
 abbrev pub ResetKept : Type 0
 ResetKept =
     (G : Geometry) (p s : List ℕ) → geometryOk G ≡ true → resetRefusal s ≡ 0 → Kept G p (start G s)
 
--- For every record, accepted or not: an input word matters only in a clock whose answer byte shows a read. That a load shows its read
--- in one clock alone is `silence` above.
+-- For every record, accepted or not: an input word matters only in a clock whose answer byte shows a read. By `silence` above a load
+-- shows its read in one clock only.
 abbrev pub Deaf : Type 0
 Deaf =
-    (G : Geometry) (p : List ℕ) (x : Lent) (line i j : ℕ)
-    → bit 0 (clockOf G p x (record { line = line; input = i }) .out .byte) ≡ 0
-    → clockOf G p x (record { line = line; input = i }) ≡ clockOf G p x (record { line = line; input = j })
+    (G : Geometry) (p : List ℕ) (x : Lent) (lineByte i j : ℕ)
+    → bit 0 (clockOf G p x (record { lineByte = lineByte; input = i }) .out .byte) ≡ 0
+    → clockOf G p x (record { lineByte = lineByte; input = i }) ≡ clockOf G p x (record { lineByte = lineByte; input = j })
 
--- For every record: a held clock; a clock that takes an interrupt, in phase 0 only; any other works on the word at PC.
+-- For every record a clock is held, or takes an interrupt (in phase 0 only), or works on the word at PC.
 pub record Clocked (G : Geometry) (p : List ℕ) (x : Lent) (pins : Pins) : Type 0 where
-  pub held : stalled (pins .line) ≡ true → clockOf G p x pins ≡ heldClock (x .machine) (x .store)
-  pub takes : stalled (pins .line) ≡ false → acknowledges (x .machine) pins ≡ true
+  pub held : stalled (pins .lineByte) ≡ true → clockOf G p x pins ≡ heldClock (x .machine) (x .store)
+  pub takes : stalled (pins .lineByte) ≡ false → acknowledges (x .machine) pins ≡ true
       → clockOf G p x pins ≡ carried (x .machine .scalars)
-      (interrupted (visibleOf (x .machine)) (interruptChosen (x .machine .scalars .status) (pins .line)))
+      (interrupted (visibleOf (x .machine)) (interruptChosen (x .machine .scalars .status) (pins .lineByte)))
       (cacheOf (x .machine)) (x .store) (silent 0)
-  pub works : stalled (pins .line) ≡ false → acknowledges (x .machine) pins ≡ false
+  pub works : stalled (pins .lineByte) ≡ false → acknowledges (x .machine) pins ≡ false
       → clockOf G p x pins
       ≡ worked G (wordAt p (x .machine .scalars .pc)) (length (x .store)) (x .machine) (x .store) (pins .input)
 
--- A held clock, written out: clocks and held are one more, and nothing else changes.
+-- A held clock, field by field: clocks and held are one more, and nothing else changes.
 pub record Waits (x : Lent) (t : After Lent Answer) : Type 0 where
   pub visible : visibleOf (t .state .machine) ≡ visibleOf (x .machine)
   pub running : t .state .machine .scalars .running ≡ x .machine .scalars .running
@@ -125,13 +125,13 @@ pub record Waits (x : Lent) (t : After Lent Answer) : Type 0 where
 
 abbrev pub HeldWaits : Type 0
 HeldWaits =
-    (G : Geometry) (p : List ℕ) (x : Lent) (pins : Pins) → stalled (pins .line) ≡ true → Waits x (clockOf G p x pins)
+    (G : Geometry) (p : List ℕ) (x : Lent) (pins : Pins) → stalled (pins .lineByte) ≡ true → Waits x (clockOf G p x pins)
 
 abbrev pub ClocksAreThree : Type 0
 ClocksAreThree = (G : Geometry) (p : List ℕ) (x : Lent) (pins : Pins) → Clocked G p x pins
 
--- "What a programmer sees changes only in an instruction's last clock", but for data memory, and for every record: a clock that carries
--- nothing out and takes no interrupt leaves it, and answers nothing. Memory is in demand 3 (`Still` of trm_agreement) and D-33.
+-- "What a programmer sees changes only in an instruction's last clock", except data memory, for every record: a clock that executes no
+-- word and takes no interrupt does not change it, and its answer is empty. For memory see demand 3 (`Still` of trm_agreement) and D-33.
 pub record Unseen (G : Geometry) (p : List ℕ) (x : Lent) (pins : Pins) : Type 0 where
   pub visible : visibleOf (clockOf G p x pins .state .machine) ≡ visibleOf (x .machine)
   pub answer : clockOf G p x pins .out ≡ silent 0
@@ -139,11 +139,11 @@ pub record Unseen (G : Geometry) (p : List ℕ) (x : Lent) (pins : Pins) : Type 
 abbrev pub SeenChangesLast : Type 0
 SeenChangesLast =
     (G : Geometry) (p : List ℕ) (x : Lent) (pins : Pins)
-    → clockOf G p x pins .out .done ≡ 0 → not (stalled (pins .line)) && acknowledges (x .machine) pins ≡ false
+    → clockOf G p x pins .out .done ≡ 0 → not (stalled (pins .lineByte)) && acknowledges (x .machine) pins ≡ false
     → Unseen G p x pins
 
--- The scenario: digests over every clock of both machines, the clocks at which words finish and the phases are those of a second
--- reading of the paper.
+-- The scenario: digests over every clock of both machines, the clocks at which words finish and the phases are those of an independent
+-- implementation in Python.
 abbrev pub ScenarioHolds : Type 0
 ScenarioHolds =
     (recordDigest ≡ expectedRecordDigest)
@@ -151,17 +151,17 @@ ScenarioHolds =
     × (finishes ≡ expectedFinishes)
     × (phases ≡ spread expectedPhases)
 
--- The refusals: every call gives the number expected of it, row by row.
+-- The refusals: in every row of the table the call gives the expected number.
 abbrev pub RefusalsHold : Type 0
 RefusalsHold = AllGive rows
 
--- Row 6 by its numbers, and row 4: the ten lengths of a store, and six others.
+-- Row 6 clause by clause, and row 4: the ten legal lengths of a store, and six illegal ones.
 pub record Limits : Type 0 where
-  pub runs : (lines inputs : List ℕ) → length lines ≡ length inputs → length lines ≤ 65536 → allAtMost 7 lines ≡ true
-      → linesRefused lines inputs ≡ false
-  pub unequal : (lines inputs : List ℕ) → length lines ≢ length inputs → linesRefused lines inputs ≡ true
-  pub long : (lines inputs : List ℕ) → 65537 ≤ length lines → linesRefused lines inputs ≡ true
-  pub high : (lines inputs : List ℕ) → allAtMost 7 lines ≡ false → linesRefused lines inputs ≡ true
+  pub runs : (lineBytes inputs : List ℕ) → length lineBytes ≡ length inputs → length lineBytes ≤ 65536 → allAtMost 7 lineBytes ≡ true
+      → lineBytesRefused lineBytes inputs ≡ false
+  pub unequal : (lineBytes inputs : List ℕ) → length lineBytes ≢ length inputs → lineBytesRefused lineBytes inputs ≡ true
+  pub long : (lineBytes inputs : List ℕ) → 65537 ≤ length lineBytes → lineBytesRefused lineBytes inputs ≡ true
+  pub high : (lineBytes inputs : List ℕ) → allAtMost 7 lineBytes ≡ false → lineBytesRefused lineBytes inputs ≡ true
   pub stores : map storeLengthOk (64 ∷ 128 ∷ 256 ∷ 512 ∷ 1024 ∷ 2048 ∷ 4096 ∷ 8192 ∷ 16384 ∷ 32768 ∷ []) ≡ replicate 10 true
   pub others : map storeLengthOk (0 ∷ 32 ∷ 63 ∷ 65 ∷ 96 ∷ 65536 ∷ []) ≡ replicate 6 false
 

@@ -1,8 +1,7 @@
--- One clock of the record and the store, a clause for each phase.
+-- One clock of the machine: `clockOf` gives the next record and store, and the answer, by cases of the phase.
 -- Paper: "Clock by clock". The store's length is n; w is the word at PC.
--- Assumes nothing.
 --   clockOf G p x pins    one clock of the record and store x under the program p
---   isLast                whether an unheld clock carries the word out        finish   that clock
+--   isLast                whether an unheld clock executes the word        finish   that clock
 --   advance               any other unheld clock, by phase: firstClock, writing, filling
 use Prim.Native.Nat.{ℕ, _+_, _%_}
 use mathlib.Core.Bool.{Bool, true, cond, not, _&&_}
@@ -25,7 +24,7 @@ use Rattle.trm_cache.specs.Cache.{Cache, Line, lineAt, holds, view, emptied, cl
 use Rattle.trm_cache.specs.Cache.{countDirty, firstDirty, allEmptied}
 use Rattle.trm_core.specs.Record.{Lent, visibleOf, cacheOf, whole, stepping, inPhase, advanced, ended, waited}
 
--- what a clock leaves that carries nothing out: the registers stay
+-- the state after a clock that executes no word; the registers do not change
 pub record Moved : Type 0 where
   pub scalars : Scalars
   pub cache : Cache
@@ -34,7 +33,7 @@ pub record Moved : Type 0 where
 abbrev pub moved : Scalars → Running → Cache → List ℕ → ℕ → ℕ → Moved
 moved c r ca s refilled written = record { scalars = advanced c r refilled written; cache = ca; store = s }
 
--- the whole outcome of such a clock, and of one that changes what is seen
+-- the whole outcome of such a clock, and of one that changes what a programmer sees
 abbrev pub quiet : List ℕ → Moved → After Lent Answer
 quiet rs t =
     record {
@@ -53,12 +52,12 @@ heldClock m s =
       out = silent 0;
     }
 
--- ST past the cache
+-- uncached ST
 unfoldable pub storeAfter : ℕ → ℕ → Visible → List ℕ → List ℕ
 storeAfter w n v s = cond (pastCache w v n && isStore w) (set s (target w v n) (stored w v)) s
 
 module _ (G : Geometry) where
-  -- the line of the word's access
+  -- the cache line that the word accesses
   unfoldable pub lineFor : ℕ → ℕ → Visible → Cache → Line
   lineFor w n v ca = lineAt G ca (targetLine G w v n)
 
@@ -66,11 +65,11 @@ module _ (G : Geometry) where
   unfoldable pub hits : ℕ → ℕ → Visible → Cache → Bool
   hits w n v ca = holds (lineFor w n v ca) (targetBlock G w v n)
 
-  -- the clock table by the record's own lines
+  -- the charge by the clock table, from the lines of the record
   unfoldable pub chargeHere : ℕ → ℕ → Visible → Cache → ℕ
   chargeHere w n v ca = chargeBy G w v n (not (hits w n v ca)) (lineFor w n v ca .dirty) (countDirty G ca)
 
-  -- the word's last clock: of one clock in phase 0; after 32 steps in phase 1; after 5 or 4 waits in phase 4; phase 5
+  -- the word's last clock: in phase 0 if its charge is 1; in phase 1 after 32 steps; in phase 4 after 5 or 4 waits; in phase 5
   unfoldable pub isLast : ℕ → ℕ → Running → Visible → Cache → Bool
   isLast w n r v ca =
       cond (eqb (r .phase) 0) (eqb (chargeHere w n v ca) 1)
@@ -78,7 +77,7 @@ module _ (G : Geometry) where
       (cond (eqb (r .phase) 4) (eqb (r .count + 1) (uncachedCharge w))
       (eqb (r .phase) 5)))
 
-  -- ST to a block in its line; "one last clock, which empties all lines"
+  -- ST through the cache writes to its line; turning the cache off has "one last clock, which empties all lines"
   unfoldable pub cacheAfter : ℕ → ℕ → Visible → Cache → Cache
   cacheAfter w n v ca =
       cond (throughCache w v n)
@@ -94,35 +93,35 @@ module _ (G : Geometry) where
       (storeAfter w n (visibleOf m) s)
       (answerOf w (visibleOf m) n i)
 
-  -- a burst of write-back is over, line l being clean: turning the cache off goes on to the next dirty line, or has its last clock
-  -- due; an access empties the line and refills it
+  -- after the last clock of a write-back, with line l clean: when the cache is turned off the next dirty line follows, or the last clock
+  -- if there is none; an access empties the line and refills it
   unfoldable pub written : Bool → ℕ → Scalars → Cache → List ℕ → Moved
   written off l c ca s =
       cond off
       (moved c (cond (eqb (countDirty G ca) 0) (inPhase 5 0) (inPhase 2 0)) ca s 0 1)
       (moved c (inPhase 3 0) (emptied ca l) s 0 1)
 
-  -- phase 2: a clock of the write-back of line l, k of them done
+  -- phase 2: one clock of the write-back of line l, after k of them
   unfoldable pub writing : Bool → ℕ → ℕ → Scalars → Cache → List ℕ → Moved
   writing off l k c ca s =
       cond (eqb (k + 1) (burst G))
       (written off l c (cleaned ca l) (writeWord G (lineAt G ca l) s k))
       (moved c (inPhase 2 (k + 1)) ca (writeWord G (lineAt G ca l) s k) 0 0)
 
-  -- phase 3: a clock of the refill of line l with block b, k of them done; after the last one the line is full, the last clock due
+  -- phase 3: one clock of the refill of line l with block b, after k of them; then the line is full and the last clock follows
   unfoldable pub filling : ℕ → ℕ → ℕ → Scalars → Cache → List ℕ → Moved
   filling b l k c ca s =
       cond (eqb (k + 1) (burst G))
       (moved c (inPhase 5 0) (filled (fillWord G ca l s b k) l b) s 1 0)
       (moved c (inPhase 3 (k + 1)) (fillWord G ca l s b k) s 0 0)
 
-  -- the looking clock of a miss: a dirty line is written back first, any other is empty from now on
+  -- the tag-check clock (the paper's looking clock) of a miss: a dirty line is written back first, any other is emptied now
   unfoldable pub missing : ℕ → Scalars → Cache → List ℕ → Moved
   missing l c ca s =
       cond (lineAt G ca l .dirty) (moved c (inPhase 2 0) ca s 0 0) (moved c (inPhase 3 0) (emptied ca l) s 0 0)
 
-  -- phase 0: the first of several clocks: the first step of 8 and 9; the first wait past the cache; the first clock of the first
-  -- write-back when the cache is turned off; the looking clock of a miss; else one clock, and the last is due
+  -- phase 0: the first of several clocks: the first step of 8 and 9; the first wait of an uncached access; the first clock of the first
+  -- write-back when the cache is turned off; the tag-check clock of a miss; else the first clock of two
   unfoldable pub firstClock : ℕ → ℕ → Scalars → Visible → Cache → List ℕ → Moved
   firstClock w n c v ca s =
       cond (isStepped w) (moved c (stepping w v 1) ca s 0 0)
@@ -144,7 +143,7 @@ module _ (G : Geometry) where
       (cond (eqb (c .running .phase) 3) (filling (targetBlock G w v n) (targetLine G w v n) (c .running .count) c ca s)
       (moved c (inPhase 4 (c .running .count + 1)) ca s 0 0))))
 
-  -- the word at PC begins or goes on
+  -- one clock of the word at PC
   unfoldable pub worked : ℕ → ℕ → Machine → List ℕ → ℕ → After Lent Answer
   worked w n m s i =
       cond (isLast w n (m .scalars .running) (visibleOf m) (cacheOf m)) (finish w n m s i)
@@ -153,12 +152,12 @@ module _ (G : Geometry) where
   -- "An unheld clock with no instruction in flight takes an interrupt if .. Otherwise it begins an instruction."
   unfoldable pub unheld : ℕ → ℕ → Machine → List ℕ → Pins → After Lent Answer
   unheld w n m s pins =
-      cond (eqb (m .scalars .running .phase) 0 && not (eqb (interruptChosen (m .scalars .status) (pins .line)) 0))
-      (carried (m .scalars) (interrupted (visibleOf m) (interruptChosen (m .scalars .status) (pins .line))) (cacheOf m) s (silent 0))
+      cond (eqb (m .scalars .running .phase) 0 && not (eqb (interruptChosen (m .scalars .status) (pins .lineByte)) 0))
+      (carried (m .scalars) (interrupted (visibleOf m) (interruptChosen (m .scalars .status) (pins .lineByte))) (cacheOf m) s (silent 0))
       (worked w n m s (pins .input))
 
   unfoldable pub clockOf : List ℕ → Lent → Pins → After Lent Answer
   clockOf p x pins =
-      cond (stalled (pins .line))
+      cond (stalled (pins .lineByte))
       (heldClock (x .machine) (x .store))
       (unheld (wordAt p (x .machine .scalars .pc)) (length (x .store)) (x .machine) (x .store) pins)

@@ -1,6 +1,5 @@
--- The clocked machine, in reading order: the record, the clock, the rule, the refusals, the run, what is observed; cases; claims.
+-- The clocked machine, in reading order: record, clock, record rule, refusals, run, look and watch; then test cases and claims.
 -- Paper: "Clock by clock"; "Where calls are turned down".
--- Assumes nothing.
 pub mod Record
 pub mod Clock
 pub mod Rule

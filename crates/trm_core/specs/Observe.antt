@@ -1,7 +1,7 @@
--- Look and watch: what they give back; the copy is `copyOf` of trm_cache.
+-- What look and watch return; a copy is `copyOf` of trm_cache.
 -- Paper: "A look gives one word of data memory .. a full line's word standing before the store's";
--- "the watch names a clock, from 0, whose byte shows that device written, or none if there is no such clock". Assumes nothing.
---   lookAt G m s address   one word        SightingHolds   what holds of the watch's answer
+-- "the watch names a clock, from 0, whose byte shows that device written, or none if there is no such clock".
+--   lookAt G m s address   one word        SightingHolds   which answers of a watch are right
 use Prim.Native.Nat.{ℕ, _%_, _<_}
 use mathlib.Core.Path.{_≡_}
 use mathlib.Core.Bool.{Bool, true, false, _&&_}
@@ -12,8 +12,8 @@ use Rattle.trm_word.specs.Fields.{bit, bits}
 use Rattle.trm_word.specs.Condition.{isSet}
 use Rattle.trm_reference.specs.Geometry.{Geometry}
 use Rattle.trm_core.specs.Record.{Machine}
-use Rattle.trm_core.specs.declared.watch.Sighting.{Sighting}
-use Rattle.trm_core.specs.declared.watch.Sighting.the-variants.{Clock, Nowhere}
+use Rattle.trm_core.specs.declared.sighting.Sighting.{Sighting}
+use Rattle.trm_core.specs.declared.sighting.Sighting.the-variants.{Clock, Nowhere}
 use Rattle.trm_cache.specs.Cache.{view}
 use Rattle.trm_core.specs.Record.{cacheOf}
 
@@ -25,7 +25,7 @@ lookAt G m s address = view G (cacheOf m) s (address % length s)
 unfoldable pub showsWrite : ℕ → ℕ → Bool
 showsWrite device byte = isSet (bit 1 byte) && eqb (bits 7 2 byte) device
 
--- which of several clocks is named is free
+-- if several clocks show the write, the watch may name any of them
 unfoldable pub SightingHolds : List ℕ → ℕ → Sighting → Type 0
 SightingHolds bytes device (Clock k) = (k < length bytes) × (showsWrite device (getD bytes k 0) ≡ true)
 SightingHolds bytes device Nowhere = (k : ℕ) → k < length bytes → showsWrite device (getD bytes k 0) ≡ false

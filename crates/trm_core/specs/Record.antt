@@ -1,11 +1,11 @@
--- The record: what a programmer sees of it, its cache, and the record after a clock.
+-- The record: the part that a programmer sees, the cache, and how a clock changes the scalars.
 -- Paper: "The record holds phase and count .."; "The record also counts finished refills and write-backs"; "Reset makes everything zero
--- and the cache empty; the store keeps its contents". Assumes nothing.
+-- and the cache empty; the store keeps its contents".
 --   visibleOf m, cacheOf m    the two parts        whole   the record from its parts        resetOf G s, start G s   after a reset
---   advanced, ended, waited   the scalars after a clock that goes on, that ends something, that is held
+--   advanced, ended, waited   the scalars after a clock that executes no word, after one that does or takes an interrupt, after a held one
 use Prim.Native.Nat.{ℕ, _+_, _*_}
 use mathlib.Core.Bool.{cond}
-use mathlib.Core.List.{List}
+use mathlib.Core.List.{List, []}
 use lib.ListN.{length, replicate}
 use lib.Dec.{eqb}
 use Rattle.trm_word.specs.Fields.{operation}
@@ -14,11 +14,12 @@ use Rattle.trm_alu.specs.Divide.{divRem, divQuot}
 use Rattle.trm_reference.specs.Geometry.{Geometry}
 use Rattle.trm_reference.specs.Visible.{Visible}
 use Rattle.trm_reference.specs.Execute.{operandA, operandB}
+use Rattle.trm_core.specs.declared.record.Counts.{Counts}
 use Rattle.trm_core.specs.declared.record.Running.{Running}
 use Rattle.trm_core.specs.declared.record.Scalars.{Scalars}
 use Rattle.trm_cache.specs.Cache.{Cache, cache, stride}
 
--- the record: bank 0 and bank 1 of the registers; for each line full, dirty (0 or 1) and block; the words of all lines
+-- the record: the scalars; registers of bank 0, then of bank 1; per line full, dirty (0 or 1) and block; the words of all lines
 pub record Machine : Type 0 where
   pub scalars : Scalars
   pub regs : List ℕ
@@ -27,7 +28,7 @@ pub record Machine : Type 0 where
   pub block : List ℕ
   pub words : List ℕ
 
--- what a programmer sees, gathered from the scalars and the registers
+-- what a programmer sees, from the scalars and the registers
 abbrev pub gathered : Scalars → List ℕ → Visible
 gathered c rs =
     record {
@@ -58,7 +59,7 @@ whole c rs ca =
       words = ca .words;
     }
 
--- a record with a store: what a clock moves
+-- a record with its store: the state that a clock changes
 pub record Lent : Type 0 where
   pub machine : Machine
   pub store : List ℕ
@@ -88,30 +89,9 @@ stepping w v k =
 abbrev pub inPhase : ℕ → ℕ → Running
 inPhase phase count = record { phase = phase; count = count; product = 0; remainder = 0; quotient = 0 }
 
--- a clock that goes on: what is running, and how many refills and write-backs it finished
-abbrev pub advanced : Scalars → Running → ℕ → ℕ → Scalars
-advanced c r refilled written =
-    record {
-      pc = c .pc;
-      h = c .h;
-      n = c .n;
-      z = c .z;
-      c = c .c;
-      v = c .v;
-      status = c .status;
-      running = r;
-      size = c .size;
-      counts = record {
-        clocks = c .counts .clocks + 1;
-        held = c .counts .held;
-        refills = c .counts .refills + refilled;
-        writebacks = c .counts .writebacks + written;
-      };
-    }
-
--- a clock that carries a word out or takes an interrupt: v is what is seen then
-abbrev pub ended : Scalars → Visible → Scalars
-ended c v =
+-- the scalars from what a programmer sees (all of it but the registers), what is running, the store's length at reset and the counts
+abbrev pub scalarsOf : Visible → Running → ℕ → Counts → Scalars
+scalarsOf v r size k =
     record {
       pc = v .pc;
       h = v .h;
@@ -120,38 +100,38 @@ ended c v =
       c = v .c;
       v = v .v;
       status = v .status;
-      running = inPhase 0 0;
-      size = c .size;
-      counts = record {
-        clocks = c .counts .clocks + 1;
-        held = c .counts .held;
-        refills = c .counts .refills;
-        writebacks = c .counts .writebacks;
-      };
+      running = r;
+      size = size;
+      counts = k;
     }
+
+-- the scalars c with another running part and other counts; all else stays
+abbrev pub scalarsWith : Scalars → Running → Counts → Scalars
+scalarsWith c r k = scalarsOf (gathered c []) r (c .size) k
+
+-- clocks, held, refills, write-backs
+abbrev pub countsOf : ℕ → ℕ → ℕ → ℕ → Counts
+countsOf k held refills writebacks = record { clocks = k; held = held; refills = refills; writebacks = writebacks }
+
+-- a clock that executes no word: what is running after it, and how many refills and write-backs it finished
+abbrev pub advanced : Scalars → Running → ℕ → ℕ → Scalars
+advanced c r refilled written =
+    scalarsWith c r
+    (countsOf (c .counts .clocks + 1) (c .counts .held) (c .counts .refills + refilled) (c .counts .writebacks + written))
+
+-- a clock that executes a word or takes an interrupt: v is what a programmer sees after it
+abbrev pub ended : Scalars → Visible → Scalars
+ended c v =
+    scalarsOf v (inPhase 0 0) (c .size)
+    (countsOf (c .counts .clocks + 1) (c .counts .held) (c .counts .refills) (c .counts .writebacks))
 
 -- "it adds one to the clock and held counts and does nothing else"
 abbrev pub waited : Scalars → Scalars
 waited c =
-    record {
-      pc = c .pc;
-      h = c .h;
-      n = c .n;
-      z = c .z;
-      c = c .c;
-      v = c .v;
-      status = c .status;
-      running = c .running;
-      size = c .size;
-      counts = record {
-        clocks = c .counts .clocks + 1;
-        held = c .counts .held + 1;
-        refills = c .counts .refills;
-        writebacks = c .counts .writebacks;
-      };
-    }
+    scalarsWith c (c .running)
+    (countsOf (c .counts .clocks + 1) (c .counts .held + 1) (c .counts .refills) (c .counts .writebacks))
 
--- "Reset makes everything zero and the cache empty"; the store's length is kept
+-- "Reset makes everything zero and the cache empty"; the record keeps the store's length
 unfoldable pub resetOf : Geometry → List ℕ → Machine
 resetOf G s =
     record {
@@ -165,7 +145,7 @@ resetOf G s =
         status = 0;
         running = inPhase 0 0;
         size = length s;
-        counts = record { clocks = 0; held = 0; refills = 0; writebacks = 0 };
+        counts = countsOf 0 0 0 0;
       };
       regs = replicate 16 0;
       full = replicate (G .lines) 0;

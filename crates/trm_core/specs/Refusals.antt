@@ -1,6 +1,5 @@
--- The refusals of reset, clock, run, look, copy and watch, down the table; 0: not refused. Of words see trm_codec, of images trm_image.
+-- The refusals of reset, clock, run, look, copy and watch, in the table's order; 0: accepted. Words: see trm_codec; images: see trm_image.
 -- Paper: "Where calls are turned down": "Checks go down the table; a call skips rows about things it does not take."
--- Assumes nothing.
 --   resetRefusal, clockRefusal, runRefusal, lookRefusal, copyRefusal, watchRefusal
 use Prim.Native.Nat.{ℕ, _+_}
 use mathlib.Core.Bool.{Bool, true, cond, not, _&&_, _||_}
@@ -25,41 +24,41 @@ programOk p = leb 1 (length p) && leb (length p) 4096 && allAtMost 0x3FFFF p
 unfoldable pub storeOk : Machine → List ℕ → Bool
 storeOk m s = storeLengthOk (length s) && eqb (length s) (m .scalars .size)
 
--- rows 3, 4 and 5, then what the call's own rows give
+-- rows 3, 4 and 5, then the call's own rows
 unfoldable pub recordRows : Geometry → List ℕ → Machine → List ℕ → ℕ → ℕ
 recordRows G p m s rest =
     cond (not (programOk p)) 3 (cond (not (storeOk m s)) 4 (cond (not (recordOk G p (length s) m)) 5 rest))
 
--- 8: "would pass 4,294,967,295": so many clocks after so many
+-- 8: "would pass 4,294,967,295": `more` clocks after `clocks`
 unfoldable pub countRow : ℕ → ℕ → ℕ
 countRow clocks more = cond (ltb 4294967295 (clocks + more)) 8 0
 
--- 6 for the clock's one byte, "a byte above 7", then 8
+-- 6 for the line byte of a clock, "a byte above 7", then 8
 unfoldable pub clockRows : ℕ → ℕ → ℕ
-clockRows clocks line = cond (ltb 7 line) 6 (countRow clocks 1)
+clockRows clocks lineByte = cond (ltb 7 lineByte) 6 (countRow clocks 1)
 
 -- 6: "other length than the input words, over 65,536, or a byte above 7"
-unfoldable pub linesRefused : List ℕ → List ℕ → Bool
-linesRefused lines inputs =
-    not (eqb (length lines) (length inputs)) || ltb 65536 (length lines) || not (allAtMost 7 lines)
+unfoldable pub lineBytesRefused : List ℕ → List ℕ → Bool
+lineBytesRefused lineBytes inputs =
+    not (eqb (length lineBytes) (length inputs)) || ltb 65536 (length lineBytes) || not (allAtMost 7 lineBytes)
 
 -- 6, then 7: "other length than the run", for both answer buffers, then 8
 unfoldable pub runRows : ℕ → List ℕ → List ℕ → List ℕ → List ℕ → ℕ
-runRows clocks lines inputs bytes words =
-    cond (linesRefused lines inputs) 6
-    (cond (not (eqb (length bytes) (length lines)) || not (eqb (length words) (length lines))) 7
-    (countRow clocks (length lines)))
+runRows clocks lineBytes inputs bytes words =
+    cond (lineBytesRefused lineBytes inputs) 6
+    (cond (not (eqb (length bytes) (length lineBytes)) || not (eqb (length words) (length lineBytes))) 7
+    (countRow clocks (length lineBytes)))
 
--- reset takes the store alone
+-- reset takes only the store
 unfoldable pub resetRefusal : List ℕ → ℕ
 resetRefusal s = cond (storeLengthOk (length s)) 0 4
 
 unfoldable pub clockRefusal : Geometry → List ℕ → Machine → List ℕ → ℕ → ℕ
-clockRefusal G p m s line = recordRows G p m s (clockRows (m .scalars .counts .clocks) line)
+clockRefusal G p m s lineByte = recordRows G p m s (clockRows (m .scalars .counts .clocks) lineByte)
 
 unfoldable pub runRefusal : Geometry → List ℕ → Machine → List ℕ → List ℕ → List ℕ → List ℕ → List ℕ → ℕ
-runRefusal G p m s lines inputs bytes words =
-    recordRows G p m s (runRows (m .scalars .counts .clocks) lines inputs bytes words)
+runRefusal G p m s lineBytes inputs bytes words =
+    recordRows G p m s (runRows (m .scalars .counts .clocks) lineBytes inputs bytes words)
 
 -- 9: "a look above FFBFH"
 unfoldable pub lookRefusal : Geometry → List ℕ → Machine → List ℕ → ℕ → ℕ

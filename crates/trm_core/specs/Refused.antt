@@ -1,7 +1,7 @@
--- The refusals, computed: a row for every call and number that it can give; for the clauses of row 5 refused records and accepted ones.
--- Paper: "Where calls are turned down". The expected numbers are those of tests/machine/refused.py, a reading of the paper whose author
--- had read the record rule and the refusals here (D-44). Assumes nothing.
---   rows      what a call gives, and what is expected of it        AllGive rs   every row gives what is expected
+-- Test cases of the refusals: a row for every call and number that it can give; for each clause of row 5 refused and accepted records.
+-- Paper: "Where calls are turned down". The expected numbers, and the comment of each row, are those of tests/machine/refused.py,
+-- whose author had read the record rule and the refusals here (D-44).
+--   rows      the number that a call gives, and the expected one        AllGive rs   the two are equal in every row
 use Prim.Native.Nat.{ℕ, _+_, _-_}
 use mathlib.Core.Path.{_≡_}
 use mathlib.Core.List.{List, [], _∷_, _++_, map}
@@ -14,45 +14,26 @@ use Rattle.trm_core.specs.declared.record.Counts.{Counts}
 use Rattle.trm_core.specs.declared.record.Running.{Running}
 use Rattle.trm_core.specs.Record.{Machine}
 use Rattle.trm_cache.specs.Cache.{Cache, cache}
-use Rattle.trm_core.specs.Record.{Lent, whole, resetOf, inPhase}
+use Rattle.trm_core.specs.Record.{Lent, whole, resetOf, inPhase, scalarsOf, countsOf}
 use Rattle.trm_core.specs.Refusals.{resetRefusal, clockRefusal, runRefusal, lookRefusal, copyRefusal, watchRefusal}
 use Rattle.trm_core.specs.Scenario.{program, recordHistory}
 
--- a store of n words, a list of n zeros
+-- a list of n zeros, used as a store of n words
 abbrev pub zeros : ℕ → List ℕ
 zeros n = replicate n 0
 
--- one word, branch never
+-- a program of one word, branch never
 abbrev pub never : List ℕ
 never = 0x3BC00 ∷ []
 
--- a record with a store of so many words at reset, by its parts
+-- a record from its parts; `size` is the store's length at reset
 abbrev pub made : ℕ → Visible → Running → Counts → Cache → Machine
-made size v r k ca =
-    whole
-    (record {
-      pc = v .pc;
-      h = v .h;
-      n = v .n;
-      z = v .z;
-      c = v .c;
-      v = v .v;
-      status = v .status;
-      running = r;
-      size = size;
-      counts = k;
-    })
-    (v .regs)
-    ca
+made size v r k ca = whole (scalarsOf v r size k) (v .regs) ca
 
 -- PC, N, Z, C, V, status; R0 is 3 and R1 FFC0H
 abbrev pub seen : ℕ → ℕ → ℕ → ℕ → ℕ → ℕ → Visible
 seen pc n z c v status =
     record { pc = pc; regs = 3 ∷ 0xFFC0 ∷ zeros 14; h = 0; n = n; z = z; c = c; v = v; status = status }
-
--- clocks, held, refills, write-backs
-abbrev pub counts : ℕ → ℕ → ℕ → ℕ → Counts
-counts k held refills writebacks = record { clocks = k; held = held; refills = refills; writebacks = writebacks }
 
 -- phase, count, product, remainder, quotient
 abbrev pub running : ℕ → ℕ → ℕ → ℕ → ℕ → Running
@@ -67,30 +48,31 @@ abbrev pub line15 : ℕ → ℕ → ℕ → Cache
 line15 full dirty block =
     cache (zeros 15 ++ (full ∷ [])) (zeros 15 ++ (dirty ∷ [])) (zeros 15 ++ (block ∷ [])) (zeros 128)
 
--- the record of a reset with 256 words, and what may differ from it: what is seen; the counts; status, what is running, and a line
+-- the record after a reset with 256 words, and records that differ from it: in the visible state; in the counts; in status, what is
+-- running, and a line
 abbrev pub ready : Machine
 ready = resetOf paperGeometry (zeros 256)
 
 abbrev pub seeing : ℕ → ℕ → ℕ → ℕ → ℕ → ℕ → Machine
-seeing pc n z c v status = made 256 (seen pc n z c v status) (inPhase 0 0) (counts 0 0 0 0) (line0 0 0 0)
+seeing pc n z c v status = made 256 (seen pc n z c v status) (inPhase 0 0) (countsOf 0 0 0 0) (line0 0 0 0)
 
 abbrev pub counted : ℕ → ℕ → ℕ → ℕ → Machine
 counted k held refills writebacks =
-    made 256 (seen 0 0 0 0 0 0) (inPhase 0 0) (counts k held refills writebacks) (line0 0 0 0)
+    made 256 (seen 0 0 0 0 0 0) (inPhase 0 0) (countsOf k held refills writebacks) (line0 0 0 0)
 
 abbrev pub flying : ℕ → Running → Cache → Machine
-flying status r ca = made 256 (seen 0 0 0 0 0 status) r (counts 0 0 0 0) ca
+flying status r ca = made 256 (seen 0 0 0 0 0 status) r (countsOf 0 0 0 0) ca
 
 -- phase 0 with count 1, which row 5 forbids
 abbrev pub broken : Machine
 broken = flying 0 (inPhase 0 1) (line0 0 0 0)
 
--- the numbers of the calls; the store has n words
+-- the numbers that the calls give; the store has n words
 abbrev pub clockGives : List ℕ → Machine → ℕ → ℕ → ℕ
-clockGives p m n line = clockRefusal paperGeometry p m (zeros n) line
+clockGives p m n lineByte = clockRefusal paperGeometry p m (zeros n) lineByte
 
 abbrev pub runGives : List ℕ → Machine → ℕ → List ℕ → List ℕ → List ℕ → List ℕ → ℕ
-runGives p m n lines inputs bytes words = runRefusal paperGeometry p m (zeros n) lines inputs bytes words
+runGives p m n lineBytes inputs bytes words = runRefusal paperGeometry p m (zeros n) lineBytes inputs bytes words
 
 abbrev pub lookGives : List ℕ → Machine → ℕ → ℕ → ℕ
 lookGives p m n address = lookRefusal paperGeometry p m (zeros n) address
@@ -106,7 +88,7 @@ clocked w m = clockGives (w ∷ []) m 256 0
 unfoldable pub clockedIn : After Lent Answer → ℕ
 clockedIn t = clockRefusal paperGeometry program (t .state .machine) (t .state .store) 0
 
--- the scenario after clock k, which is 1 to 240: the difference does not truncate, and 99 is not reached
+-- the clock call after clock k of the scenario; k is 1 to 240, so the difference does not truncate and the default 99 is not reached
 unfoldable pub scenarioAfter : ℕ → ℕ
 scenarioAfter k = getD (map clockedIn recordHistory) (k - 1) 99
 
@@ -125,8 +107,8 @@ unfoldable pub AllGive : List Row → Type 0
 AllGive [] = Unit {0}
 AllGive (r ∷ rs) = (r .gives ≡ r .expected) × AllGive rs
 
--- The words: LD R0 from 128 is 0x30407, from 0 is 0x30007, from device 0 is 0x30001; ST R0 is 0x34407, 0x34007 and 0x34001 alike.
--- LD R0 from device 63 is 0x301F9; its address FFFFH mod 256 would be 255, of block 31 and line 15.
+-- The words: LD R0 from 128 is 0x30407, from 0 is 0x30007, from device 0 is 0x30001; ST R0 to the same is 0x34407, 0x34007 and 0x34001.
+-- LD R0 from device 63 is 0x301F9; its address FFFFH mod 256 would be 255, in block 31 and line 15.
 -- MUL R0 by 0 is 0x20000, by 5 is 0x20005; DIV R0 by 2 is 0x24002; MOV 0x00001; status := 0 is 0x2C000, := 8 is 0x2C008;
 -- branch never is 0x3BC00, always 0x3B800; call 0x3C000; jump 0x2C407.
 unfoldable pub rows : List Row

@@ -1,10 +1,10 @@
--- The record rule, row 5, a named part for each clause. The store's length is n; w is the word at PC.
+-- The record rule, row 5: `recordOk` decides whether a record is valid, clause by clause. n is the store's length, w the word at PC.
 -- Paper: "The record holds phase and count: ..", "Phase 1 needs ..", row 5 of the refusals.
--- Assumes nothing. Each field and the clause that holds it to its width (D-07):
+-- Each field and the clause that checks its width (D-07):
 --   widthsOk   PC, N, Z, C, V, status        phaseOk   phase, count        registersOk   product, remainder, quotient
 --   countsOk   clocks, held, refills, write-backs        linesOk   of every line full and dirty (marksOk), block (lineOk)
---   none here: `size`, which row 4 holds to the store; registers, H and cached words, 32 bits by their types in code, which are in
---   src/record.rt and in trm_engine's src/machine.rt        recordOk G p n m   all clauses
+--   not checked here: `size` (row 4 does); registers, H and cached words, whose types in code have 32 bits (src/record.rt, and
+--   src/machine.rt of trm_run_machine)        recordOk G p n m   all clauses
 use Prim.Native.Nat.{ℕ, zero, suc, _+_, _*_, _^_}
 use mathlib.Core.Bool.{Bool, true, cond, not, _&&_, _||_}
 use mathlib.Core.List.{List}

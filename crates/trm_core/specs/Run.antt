@@ -1,7 +1,7 @@
--- A run: one clock for each line byte, its counts, and the answers it writes.
+-- A run: one clock per line byte, the counts that it reports, and the answers that it writes.
 -- Paper: "A run carries out one clock per line byte and reports the clocks used and instructions finished. Per clock it writes a byte
--- .. and the word moved". Assumes nothing.
---   runOf G p x lines inputs   what an accepted run leaves and reports
+-- .. and the word moved".
+--   runOf G p x lines inputs   the state after an accepted run, and what it reports
 use Prim.Native.Nat.{ℕ}
 use mathlib.Core.List.{List, [], _∷_}
 use lib.ListN.{length}
@@ -21,7 +21,7 @@ wordsOf (a ∷ as′) = a .word ∷ wordsOf as′
 
 -- the clock history of a run
 unfoldable pub historyOf : Geometry → List ℕ → Lent → List ℕ → List ℕ → List (After Lent Answer)
-historyOf G p x lines inputs = clocks (clockOf G p) x (pinsOf lines inputs)
+historyOf G p x lineBytes inputs = clocks (clockOf G p) x (pinsOf lineBytes inputs)
 
 pub record Ran : Type 0 where
   pub state : Lent
@@ -31,11 +31,11 @@ pub record Ran : Type 0 where
   pub words : List ℕ
 
 unfoldable pub runOf : Geometry → List ℕ → Lent → List ℕ → List ℕ → Ran
-runOf G p x lines inputs =
+runOf G p x lineBytes inputs =
     record {
-      state = endOf x (historyOf G p x lines inputs);
-      used = length lines;
-      finished = finishedIn (outsOf (historyOf G p x lines inputs));
-      bytes = bytesOf (outsOf (historyOf G p x lines inputs));
-      words = wordsOf (outsOf (historyOf G p x lines inputs));
+      state = endOf x (historyOf G p x lineBytes inputs);
+      used = length lineBytes;
+      finished = finishedIn (outsOf (historyOf G p x lineBytes inputs));
+      bytes = bytesOf (outsOf (historyOf G p x lineBytes inputs));
+      words = wordsOf (outsOf (historyOf G p x lineBytes inputs));
     }

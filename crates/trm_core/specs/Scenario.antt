@@ -1,8 +1,7 @@
--- A scenario for both machines, computed: 240 clocks from reset in which all six phases, stalls, interrupts and devices meet.
--- Paper: "Clock by clock". The expected numbers are those of a second reading of the paper, tests/machine/scenario.py.
--- Assumes nothing.
+-- A scenario for the record machine and the reference machine: 240 clocks from reset with all six phases, stalls, interrupts and devices.
+-- Paper: "Clock by clock". The expected numbers come from tests/machine/scenario.py, an independent implementation in Python.
 --   recordHistory, referenceHistory   the clocks of the two machines        recordDigest, referenceDigest   one number for all of them
---   finishes, phases                  the clocks that carry a word out; the phase after every clock
+--   finishes, phases                  the clocks that execute a word; the phase after every clock
 use Prim.Native.Nat.{ℕ, _+_, _*_, _%_}
 use mathlib.Core.Bool.{cond}
 use mathlib.Core.List.{List, [], _∷_, _++_, map}
@@ -46,9 +45,9 @@ program =
     ∷ 0x30417  -- 21: LD R0 from 130: a clean miss on line 0, which is full
     ∷ 0x37049  -- 22: ST R6 to device 9
     ∷ 0x3B804  -- 23: branch always to 28
-    ∷ 0x02C08  -- 24: the call: R5 := H
-    ∷ 0x2C407  -- 25: and back
-    ∷ 0x08801  -- 26: interrupt 0: R1 of bank 1 one up
+    ∷ 0x02C08  -- 24: called: R5 := H
+    ∷ 0x2C407  -- 25: returns from the call
+    ∷ 0x08801  -- 26: interrupt 0: increments R1 of bank 1
     ∷ 0x2C507  -- 27: RTI
     ∷ 0x36417  -- 28: ST R4 to 130: a hit on line 0
     ∷ 0x31417  -- 29: LD R2 from 130: a hit on a dirty line
@@ -57,7 +56,7 @@ program =
     ∷ 0x3BBFF  -- 32: branch always to itself
     ∷ []
 
--- so many clocks in a row with one value
+-- a number of consecutive clocks with the same value
 pub record Span : Type 0 where
   pub clocks : ℕ
   pub value : ℕ
@@ -69,9 +68,9 @@ unfoldable pub spread : List Span → List ℕ
 spread [] = []
 spread (x ∷ xs) = replicate (x .clocks) (x .value) ++ spread xs
 
--- the line bytes: bit 0 interrupt 0, bit 1 interrupt 1, bit 2 stall; the numbers are those of the clocks
-unfoldable pub lineSpans : List Span
-lineSpans =
+-- the line bytes: bit 0 interrupt 0, bit 1 interrupt 1, bit 2 stall; a comment begins with the number of the clock
+unfoldable pub lineByteSpans : List Span
+lineByteSpans =
     span 5 0
     ∷ span 1 4  -- 6: held, with the last clock of LD from the device due
     ∷ span 7 0
@@ -93,9 +92,9 @@ lineSpans =
     ∷ span 76 0
     ∷ []
 
--- the input word of a clock is 1,000 and the clock's number
+-- the input word of a clock is 1,000 plus the clock's number
 unfoldable pub pins : List Pins
-pins = pinsOf (spread lineSpans) (below 240 (λ k. 1001 + k))
+pins = pinsOf (spread lineByteSpans) (below 240 (λ k. 1001 + k))
 
 unfoldable pub firstStore : List ℕ
 firstStore = below 256 (λ a. a * 3 + 1)
@@ -107,7 +106,7 @@ recordHistory =
 unfoldable pub referenceHistory : List (After Reference Answer)
 referenceHistory = clocks (referenceClock paperGeometry program) (referenceReset firstStore) pins
 
--- the digest of a list, from its end
+-- the digest of a list, computed from its end
 unfoldable pub mixed : List ℕ → ℕ
 mixed [] = 0
 mixed (x ∷ xs) = (mixed xs * 31 + x) % 1000003
@@ -124,11 +123,11 @@ countNumbers k = k .clocks ∷ k .held ∷ k .refills ∷ k .writebacks ∷ []
 unfoldable pub answerNumbers : Answer → List ℕ
 answerNumbers a = a .byte ∷ a .word ∷ a .done ∷ []
 
--- words 0–15 and 128–143: blocks 0, 1, 16 and 17, which are those of lines 0 and 1
+-- words 0–15 and 128–143: blocks 0, 1, 16 and 17, which belong to lines 0 and 1
 unfoldable pub storeNumbers : List ℕ → List ℕ
 storeNumbers s = take 16 s ++ take 16 (drop 128 s)
 
--- all that the record and its store have after a clock, of the lines' words and of the store those that are used
+-- the record and its store after a clock; of the words of lines and store only those that the scenario uses
 unfoldable pub machineNumbers : Machine → List ℕ
 machineNumbers m =
     seenNumbers (visibleOf m) ++ runningNumbers (m .scalars .running) ++ (m .scalars .size ∷ countNumbers (m .scalars .counts))
@@ -149,7 +148,7 @@ recordDigest = mixed (map (λ t. mixed (recordNumbers t)) recordHistory)
 unfoldable pub referenceDigest : ℕ
 referenceDigest = mixed (map (λ t. mixed (referenceNumbers t)) referenceHistory)
 
--- the clock counts at which a word is carried out
+-- the clock counts at which a word is executed
 unfoldable pub finishesOf : List (After Lent Answer) → List ℕ
 finishesOf [] = []
 finishesOf (t ∷ ts) = cond (isSet (t .out .done)) (t .state .machine .scalars .counts .clocks ∷ finishesOf ts) (finishesOf ts)
@@ -160,7 +159,7 @@ finishes = finishesOf recordHistory
 unfoldable pub phases : List ℕ
 phases = map (λ t. t .state .machine .scalars .running .phase) recordHistory
 
--- what tests/machine/scenario.py gives
+-- the results of tests/machine/scenario.py
 unfoldable pub expectedRecordDigest : ℕ
 expectedRecordDigest = 902976
 

@@ -1,5 +1,5 @@
-// The record's scalars and the definitions of the clocked machine.
+// The clocked machine: the scalars of its record in code, and its definitions.
 // Paper: "Clock by clock", the record, its phases, the clock, the run; "Where calls are turned down".
-// `record`: the record's scalars; `watch`: the watch's answer. What they mean is in specs/.
+// `record`: the scalars; `sighting`: the answer of a watch. specs/ defines what they mean; read specs/Clock.antt first.
 pub mod record;
-pub mod watch;
+pub mod sighting;

@@ -1,6 +1,6 @@
-// The record's scalars: numbers only, so that any bytes are a record and row 5 judges them.
+// The scalars of the record: numbers only, so any bytes are a record, and row 5 decides whether it is valid.
 // Paper: "The record holds phase and count"; "The record also counts finished refills and write-backs".
-// All scalars but H and `size` are 64 bits wide, for speed; row 5 holds each to its own width, and row 4 `size` to the store.
+// All scalars except H and `size` are 64 bits wide, for speed; row 5 checks each against its own width, and row 4 checks `size`.
 
 // The counts: clocks, held clocks, finished refills and write-backs.
 #[repr(C)]
@@ -21,8 +21,8 @@ pub struct Running {
     pub quotient: u64,
 }
 
-// All that is no array. `size` is the store's length at reset; H is as wide as its type. Two u32 side by side that seldom change:
-// beside a scalar that changes often a u32 would be packed and unpacked in every clock.
+// All fields that are not arrays. `size` is the store's length at reset; H uses the full width of its type. These two u32 share a 64-bit
+// word because they seldom change; next to a scalar that changes often, a u32 would be packed and unpacked in every clock.
 #[repr(C)]
 pub struct Scalars {
     pub status: u64,

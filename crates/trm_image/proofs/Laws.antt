@@ -1,9 +1,8 @@
--- The laws, one theme to a file.
--- `Words`: words one after another; `Parts`: a payload as a part of the image; `Clean`: a record without a fault; `Walk`: record after
--- record; `Places`: where records begin; `Runs`: runs to the end; `Accepted`: an accepted image; `Load`: words put into an array;
--- `First`: the first fault; `Bytes`, `Written`, `Described`: an accepted image written out; `Readback`, `Unfaulted`, `Complete`: what is
--- written out is accepted and read; `Tables`: the tables of images and payloads.
--- Assumes nothing.
+-- The laws, a topic per file.
+-- `Words`: consecutive words; `Parts`: a payload as a slice of the image; `Clean`: a record without a fault; `Walk`: record by record;
+-- `Places`: where records begin; `Runs`: runs to the end; `Accepted`: an accepted image; `Load`: words copied into an array; `First`: the
+-- first fault; `Bytes`, `Written`, `Described`: an accepted image is its content written out; `Readback`, `Unfaulted`, `Complete`: what is
+-- written out is accepted and read back; `Tables`: the computed tables.
 pub mod Words
 pub mod Parts
 pub mod Clean

@@ -1,6 +1,5 @@
 -- The claims on images, all proved: the value of the record of `specs/Claims.antt`.
 -- Idea: each field is a law of Laws/.
--- Assumes nothing.
 use Rattle.trm_image.specs.Claims.{Claims}
 use Rattle.trm_image.proofs.Laws.First.{refused-first}
 use Rattle.trm_image.proofs.Laws.Described.{accepted-described}

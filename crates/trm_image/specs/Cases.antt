@@ -1,6 +1,6 @@
--- Images whose first fault is computed, as rows of one table: the paper's example, and each fault at its smallest.
--- Paper: "Images and the listing program"; "Where calls are turned down", rows 1, 2, 3, 4 and 6. A row is the store's length in words,
--- the bytes, the number and the byte where the record begins; 0 at 0 is an accepted image. Assumes nothing.
+-- A table of images with the first fault of each, which the checker computes: the paper's example, and the smallest image of each fault.
+-- Paper: "Images and the listing program"; "Where calls are turned down", rows 1, 2, 3, 4 and 6.
+-- A row is the store's length in words, the bytes, the refusal number and the offset of the record; 0 at 0 is an accepted image.
 --   cases      the table        AllHold cs   every image has the fault that its row gives
 use Prim.Native.Nat.{ℕ}
 use mathlib.Core.Path.{_≡_}
@@ -26,7 +26,7 @@ second = 4 ∷ 0 ∷ 0 ∷ 0 ∷ 2 ∷ 0 ∷ 7 ∷ 0 ∷ 0 ∷ 0 ∷ []
 
 -- kind 3, 15 bytes: three bytes of its count (the fourth is 0) and its line byte; the input word is 0
 abbrev pub run : ℕ → ℕ → ℕ → ℕ → List ℕ
-run a b c line = 9 ∷ 0 ∷ 0 ∷ 0 ∷ 3 ∷ 0 ∷ a ∷ b ∷ c ∷ 0 ∷ line ∷ 0 ∷ 0 ∷ 0 ∷ 0 ∷ []
+run a b c lineByte = 9 ∷ 0 ∷ 0 ∷ 0 ∷ 3 ∷ 0 ∷ a ∷ b ∷ c ∷ 0 ∷ lineByte ∷ 0 ∷ 0 ∷ 0 ∷ 0 ∷ []
 
 -- kind 1 of one word, its four bytes given
 abbrev pub word : ℕ → ℕ → ℕ → ℕ → List ℕ
@@ -44,7 +44,7 @@ cases =
     ∷ row 2048 (program ++ second) 0 0
     ∷ row 2048 (program ++ second ++ run 1 0 0 0 ++ run 2 0 0 0) 0 0
     ∷ row 2048 (program ++ run 1 0 0 0 ++ run 2 0 0 0) 0 0
-    -- over 65,536 bytes, before any record is looked at; 65,536 bytes, an unknown kind of 65,530 (FFFAH); empty, kind 1 missing
+    -- over 65,536 bytes, checked before any record; 65,536 bytes, an unknown kind of length 65,530 (FFFAH); empty: kind 1 missing
     ∷ row 2048 (replicate 65537 0) 1 0
     ∷ row 2048 (0xFA ∷ 0xFF ∷ 0 ∷ 0 ∷ 4 ∷ 0 ∷ replicate 65530 0) 2 0
     ∷ row 2048 [] 2 0
@@ -54,28 +54,28 @@ cases =
     -- a payload cut short, by one byte; a length of FFFFFFFFH
     ∷ row 2048 (4 ∷ 0 ∷ 0 ∷ 0 ∷ 1 ∷ 0 ∷ 5 ∷ 0 ∷ 0 ∷ []) 1 0
     ∷ row 2048 (0xFF ∷ 0xFF ∷ 0xFF ∷ 0xFF ∷ 1 ∷ 0 ∷ 5 ∷ 0 ∷ 0 ∷ 0 ∷ []) 1 0
-    -- kind 1 of no bytes, of 5, of 16,388 (4004H)
+    -- kind 1 of length 0, 5 and 16,388 (4004H)
     ∷ row 2048 (0 ∷ 0 ∷ 0 ∷ 0 ∷ 1 ∷ 0 ∷ []) 1 0
     ∷ row 2048 (5 ∷ 0 ∷ 0 ∷ 0 ∷ 1 ∷ 0 ∷ 5 ∷ 0 ∷ 0 ∷ 0 ∷ 0 ∷ []) 1 0
     ∷ row 2048 (4 ∷ 0x40 ∷ 0 ∷ 0 ∷ 1 ∷ 0 ∷ replicate 16388 0) 1 0
-    -- kind 2 of no bytes, of 6, of the store of 64 words (100H bytes), of one word more
+    -- kind 2 of length 0 and 6, of 256 (100H: all 64 words of the store) and of one word more
     ∷ row 64 (program ++ 0 ∷ 0 ∷ 0 ∷ 0 ∷ 2 ∷ 0 ∷ []) 0 0
     ∷ row 64 (program ++ 6 ∷ 0 ∷ 0 ∷ 0 ∷ 2 ∷ 0 ∷ replicate 6 0) 1 10
     ∷ row 64 (program ++ 0 ∷ 1 ∷ 0 ∷ 0 ∷ 2 ∷ 0 ∷ replicate 256 0) 0 0
     ∷ row 64 (program ++ 4 ∷ 1 ∷ 0 ∷ 0 ∷ 2 ∷ 0 ∷ replicate 260 0) 1 10
-    -- kind 3 of 8 bytes, of 10
+    -- kind 3 of length 8 and 10
     ∷ row 2048 (program ++ 8 ∷ 0 ∷ 0 ∷ 0 ∷ 3 ∷ 0 ∷ 1 ∷ replicate 7 0) 1 10
     ∷ row 2048 (program ++ 10 ∷ 0 ∷ 0 ∷ 0 ∷ 3 ∷ 0 ∷ 1 ∷ replicate 9 0) 1 10
     -- a count of 0, of 65,536, of 65,537
     ∷ row 2048 (program ++ run 0 0 0 0) 1 10
     ∷ row 2048 (program ++ run 0 0 1 0) 0 0
     ∷ row 2048 (program ++ run 1 0 1 0) 1 10
-    -- kinds unknown: 0, 4, and 257, whose low byte is 1; an unknown kind cut short is 1
+    -- unknown kinds: 0, 4, and 257, whose low byte is 1; an unknown kind that is cut short is refused with 1
     ∷ row 2048 (0 ∷ 0 ∷ 0 ∷ 0 ∷ 0 ∷ 0 ∷ []) 2 0
     ∷ row 2048 (program ++ 0 ∷ 0 ∷ 0 ∷ 0 ∷ 4 ∷ 0 ∷ []) 2 10
     ∷ row 2048 (4 ∷ 0 ∷ 0 ∷ 0 ∷ 1 ∷ 1 ∷ 5 ∷ 0 ∷ 0 ∷ 0 ∷ []) 2 0
     ∷ row 2048 (program ++ 1 ∷ 0 ∷ 0 ∷ 0 ∷ 4 ∷ 0 ∷ []) 1 10
-    -- repeated: kind 1, kind 1 of 16,384 bytes (4000H, the most that is right), kind 2
+    -- repeated: kind 1, kind 1 of 16,384 bytes (4000H, the greatest legal length), kind 2
     ∷ row 2048 (program ++ program) 2 10
     ∷ row 2048 (program ++ 0 ∷ 0x40 ∷ 0 ∷ 0 ∷ 1 ∷ 0 ∷ replicate 16384 0) 2 10
     ∷ row 2048 (program ++ second ++ second) 2 20
@@ -88,14 +88,14 @@ cases =
     ∷ row 2048 (word 0 0 4 0) 3 0
     ∷ row 2048 (word 0 0 0 1) 3 0
     ∷ row 2048 (8 ∷ 0 ∷ 0 ∷ 0 ∷ 1 ∷ 0 ∷ 5 ∷ 0 ∷ 0 ∷ 0 ∷ 0 ∷ 0 ∷ 4 ∷ 0 ∷ []) 3 0
-    -- a first data word may be any: FFFFFFFFH
+    -- a first data word may have any value: FFFFFFFFH
     ∷ row 2048 (program ++ 4 ∷ 0 ∷ 0 ∷ 0 ∷ 2 ∷ 0 ∷ 0xFF ∷ 0xFF ∷ 0xFF ∷ 0xFF ∷ []) 0 0
     -- a line byte of 7, of 8, of 8 in the last of four records
     ∷ row 2048 (program ++ run 1 0 0 7) 0 0
     ∷ row 2048 (program ++ run 1 0 0 8) 6 10
     ∷ row 2048 (program ++ second ++ run 1 0 0 7 ++ run 1 0 0 8) 6 35
-    -- two faults in one record, the earlier row counts: kind 3 first with a count of 0, or a line byte of 8; a second kind 1 of 5 bytes,
-    -- or with a word 40000H; a count of 0 with a line byte of 8
+    -- two faults in one record, the earlier row counts: kind 3 first with a count of 0, or with a line byte of 8; a second kind 1 of
+    -- 5 bytes, or with a word 40000H; a count of 0 with a line byte of 8
     ∷ row 2048 (run 0 0 0 0) 1 0
     ∷ row 2048 (run 1 0 0 8) 2 0
     ∷ row 2048 (program ++ 5 ∷ 0 ∷ 0 ∷ 0 ∷ 1 ∷ 0 ∷ replicate 5 0) 1 10
@@ -104,18 +104,18 @@ cases =
     -- faults in two records, the earlier record counts: 3 before 1, 6 before 1
     ∷ row 2048 (word 0 0 4 0 ++ run 0 0 0 0) 3 0
     ∷ row 2048 (program ++ run 1 0 0 8 ++ 0 ∷ []) 6 10
-    -- no such store: 63, 65,536, 100 words
+    -- illegal store lengths: 63, 65,536, 100 words
     ∷ row 63 program 4 0
     ∷ row 65536 program 4 0
     ∷ row 100 program 4 0
-    -- no such store, after rows 1, 2 and 3 of the first record: over 65,536 bytes, empty, kind 1 of no bytes, an unknown kind, a program
-    -- word 40000H
+    -- illegal store length, checked after rows 1, 2 and 3 of the first record: over 65,536 bytes, empty, kind 1 of length 0, an unknown
+    -- kind, a program word 40000H
     ∷ row 63 (replicate 65537 0) 1 0
     ∷ row 63 [] 2 0
     ∷ row 63 (0 ∷ 0 ∷ 0 ∷ 0 ∷ 1 ∷ 0 ∷ []) 1 0
     ∷ row 63 (0 ∷ 0 ∷ 0 ∷ 0 ∷ 4 ∷ 0 ∷ []) 2 0
     ∷ row 63 (word 0 0 4 0) 3 0
-    -- no such store, before row 6 and before every later record: a line byte of 8, a record cut short, kind 1 again
+    -- illegal store length, checked before row 6 and before every later record: a line byte of 8, a record cut short, kind 1 again
     ∷ row 63 (program ++ run 1 0 0 8) 4 0
     ∷ row 63 (program ++ 0 ∷ []) 4 0
     ∷ row 63 (program ++ program) 4 0

@@ -1,6 +1,5 @@
--- What is claimed of images beside the contracts: one statement to a field.
+-- What is claimed of images in addition to the contracts, one statement per field of `Claims`.
 -- Paper: "Images and the listing program"; "the first fault counts". The value is in proofs/Theorems.antt.
--- Assumes nothing.
 use Prim.{Unit}
 use Prim.Native.Nat.{ℕ, _≤_, _<_}
 use mathlib.Core.Path.{_≡_}
@@ -17,7 +16,7 @@ use Rattle.trm_image.specs.Cases.{CasesHold}
 use Rattle.trm_image.specs.Payloads.{PayloadsGiven}
 use Rattle.trm_image.specs.Written.{imageBytes, Meant}
 
--- the kind of the last record that begins at one of these places, 0 if there is none
+-- the kind of the last of these records, `before` if there is none
 unfoldable pub lastKind : List ℕ → ℕ → List ℕ → ℕ
 lastKind s before [] = before
 lastKind s before (at ∷ more) = lastKind s (kindAt s at) more
@@ -27,7 +26,7 @@ unfoldable pub Faultless : ℕ → List ℕ → ℕ → List ℕ → Type 0
 Faultless n s before [] = Unit {0}
 Faultless n s before (at ∷ more) = (faultAt n s before at ≡ 0) × Faultless n s (kindAt s at) more
 
--- "the first fault counts": the records before it have none, it is the next record, and its number is the first row that it fails
+-- "the first fault counts": the records before it have none, and its number is the first row that it fails
 pub record FirstFault (n : ℕ) (s : List ℕ) (number at : ℕ) : Type 0 where
   pub before : List ℕ
   pub after : List ℕ
@@ -35,8 +34,8 @@ pub record FirstFault (n : ℕ) (s : List ℕ) (number at : ℕ) : Type 0 where
   pub faultless : Faultless n s 0 before
   pub fault : faultAt n s (lastKind s 0 before) at ≡ number
 
--- Why an image is refused: it is too long, or empty, or has a first fault. For a store that there is not, that is the first record's, by
--- row 1, 2, 3 or 4: "checks go down the table", so no row 6 and no later record comes before 4.
+-- Why an image is refused: it is too long, or empty, or has a first fault. With an illegal store length that is the first record's, by
+-- row 1, 2, 3 or 4: "checks go down the table", so 4 comes before every row 6 and every later record.
 pub data Why (n : ℕ) (s : List ℕ) (number at : ℕ) : Type 0 where
   too-long : 65536 < length s → number ≡ 1 → at ≡ 0 → Why n s number at
   empty : s ≡ [] → number ≡ 2 → at ≡ 0 → Why n s number at
@@ -46,7 +45,7 @@ pub data Why (n : ℕ) (s : List ℕ) (number at : ℕ) : Type 0 where
 abbrev pub RefusedFirst : Type 0
 RefusedFirst = (n : ℕ) (s : List ℕ) → imageFault n s .number ≢ 0 → Why n s (imageFault n s .number) (imageFault n s .at)
 
--- What is accepted is the bytes of a program, first data words and runs, as the paper describes them; `imageOf` reads them.
+-- An accepted image is the bytes of a program, first data words and runs, as the paper describes them; `imageOf` reads them.
 pub record Described (n : ℕ) (s : List ℕ) : Type 0 where
   pub second : Bool
   pub bytes : s ≡ imageBytes second (imageOf s)
@@ -59,7 +58,7 @@ abbrev pub AcceptedDescribed : Type 0
 AcceptedDescribed =
     (n : ℕ) (s : List ℕ) → allAtMost 255 s ≡ true → imageFault n s .number ≡ 0 → Described n s
 
--- And all of these are accepted, and read as what they were written from.
+-- Conversely, the bytes of any such image are accepted and read back as that image.
 abbrev pub WrittenAccepted : Type 0
 WrittenAccepted =
     (n : ℕ) (second : Bool) (I : Image) → storeLengthOk n ≡ true → Meant n I → (second ≡ false → I .first ≡ [])

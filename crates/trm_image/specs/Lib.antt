@@ -1,6 +1,5 @@
 -- The definitions of images, in reading order.
 -- Paper: "Images and the listing program"; "Where calls are turned down", rows 1, 2, 3, 4 and 6.
--- Assumes nothing.
 pub mod Records
 pub mod Numbers
 pub mod Refused

@@ -1,6 +1,6 @@
--- The records of an image, one after another.
+-- How the bytes of an image divide into records, and how their numbers are read.
 -- Paper: "A record is a payload length (4 bytes, little-endian), a kind (2 bytes) and the payload"; "Words are 4 bytes, little-endian
--- like the rest". Assumes nothing.
+-- like the rest".
 --   lengthAt, kindAt, payloadAt s at   of the record that begins at this byte        wordsAt s at n   n words from this byte on
 --   recordsOf s   where each record of s begins        recordAt s at   whether one begins at this byte
 use Prim.Native.Nat.{ℕ, zero, suc, _+_, _*_}
@@ -21,7 +21,7 @@ lengthAt s at = le4 s at
 abbrev pub kindAt : List ℕ → ℕ → ℕ
 kindAt s at = le2 s (at + 4)
 
--- "The reader hands back the payload as a part of the image itself": the bytes after the six; all of them, in a record not cut short
+-- "The reader hands back the payload as a part of the image itself": the bytes after the six of the header
 unfoldable pub payloadAt : List ℕ → ℕ → List ℕ
 payloadAt s at = take (lengthAt s at) (drop (at + 6) s)
 
@@ -29,7 +29,7 @@ unfoldable pub wordsAt : List ℕ → ℕ → ℕ → List ℕ
 wordsAt s at zero = []
 wordsAt s at (suc n) = le4 s at ∷ wordsAt s (at + 4) n
 
--- where records begin in the bytes from place `at` on, the next of them after `skip` bytes: a record is six bytes and its payload
+-- where records begin in the bytes from offset `at` on, the next of them after `skip` bytes: a record is six bytes and its payload
 unfoldable pub begins : ℕ → ℕ → List ℕ → List ℕ
 begins zero at [] = []
 begins zero at (b ∷ bs) = at ∷ begins (5 + lengthAt (b ∷ bs) 0) (suc at) bs
@@ -39,7 +39,7 @@ begins (suc skip) at (b ∷ bs) = begins skip (suc at) bs
 unfoldable pub recordsOf : List ℕ → List ℕ
 recordsOf s = begins 0 0 s
 
--- whether this is one of the places
+-- whether this offset is in the list
 unfoldable pub among : ℕ → List ℕ → Bool
 among at [] = false
 among at (b ∷ bs) = eqb at b || among at bs

@@ -1,9 +1,9 @@
--- The refusal of an image: the first fault, as its number and the byte where its record begins; 0 at 0 means none.
+-- Why an image is refused: its first fault, as the number and the offset where the record begins; 0 at 0 means accepted.
 -- Paper: "Where calls are turned down", rows 1, 2, 3, 4, 6; "Records are checked one after another, each down the table, and the first
--- fault counts"; "(0 if too long or empty)". Assumes nothing. n is the store's length in words.
+-- fault counts"; "(0 if too long or empty)". n is the store's length in words.
 --   faultAt n s before at   the row that the record at `at` fails, the kind before it being `before`, 0 for none
 --   imageFault n s          the whole image
---   payloadFault s at       the payload of the record at `at`, which takes an image and a place: rows 1 and 2
+--   payloadFault s at       the payload of the record at `at`: rows 1 and 2
 use Prim.Native.Nat.{ℕ, _+_, _-_, _/_, _%_}
 use mathlib.Core.Bool.{Bool, false, cond, not, _&&_, _||_}
 use mathlib.Core.List.{List, [], _∷_}
@@ -28,8 +28,8 @@ lengthWrong n kind bytes =
 abbrev pub countAt : List ℕ → ℕ → ℕ
 countAt s at = le4 s (at + 6)
 
-abbrev pub lineAt : List ℕ → ℕ → ℕ
-lineAt s at = getD s (at + 10) 0
+abbrev pub lineByteAt : List ℕ → ℕ → ℕ
+lineByteAt s at = getD s (at + 10) 0
 
 abbrev pub inputAt : List ℕ → ℕ → ℕ
 inputAt s at = le4 s (at + 11)
@@ -50,10 +50,10 @@ unfoldable pub wordWrong : List ℕ → ℕ → Bool
 wordWrong s at = eqb (kindAt s at) 1 && not (allAtMost 0x3FFFF (wordsAt s (at + 6) (lengthAt s at / 4)))
 
 -- 6: "a byte above 7"
-unfoldable pub lineWrong : List ℕ → ℕ → Bool
-lineWrong s at = eqb (kindAt s at) 3 && ltb 7 (lineAt s at)
+unfoldable pub lineByteWrong : List ℕ → ℕ → Bool
+lineByteWrong s at = eqb (kindAt s at) 3 && ltb 7 (lineByteAt s at)
 
--- down the table; 4: "length no power of two in 64–32,768", of the length that the reader is told, so it falls on the first record
+-- the rows in the table's order; 4: "length no power of two in 64–32,768", of the length given to the reader, so the first record fails it
 unfoldable pub faultAt : ℕ → List ℕ → ℕ → ℕ → ℕ
 faultAt n s before at =
     cond (cutShort s at) 1
@@ -62,13 +62,13 @@ faultAt n s before at =
     (cond (not (inOrder before (kindAt s at))) 2
     (cond (wordWrong s at) 3
     (cond (not (storeLengthOk n)) 4
-    (cond (lineWrong s at) 6 0))))))
+    (cond (lineByteWrong s at) 6 0))))))
 
 pub record Refused : Type 0 where
   pub number : ℕ
   pub at : ℕ
 
--- the first fault of the records that begin at these places
+-- the first fault of the records at these offsets
 unfoldable pub firstFault : ℕ → List ℕ → ℕ → List ℕ → Refused
 firstFault n s before [] = record { number = 0; at = 0 }
 firstFault n s before (at ∷ more) =
@@ -76,15 +76,15 @@ firstFault n s before (at ∷ more) =
     (firstFault n s (kindAt s at) more)
     (record { number = faultAt n s before at; at = at })
 
--- "over 65,536 bytes"; "kind 1 missing" where there is no record; then record after record
+-- "over 65,536 bytes"; "kind 1 missing" if there is no record; then record by record
 unfoldable pub imageFault : ℕ → List ℕ → Refused
 imageFault n s =
     cond (ltb 65536 (length s)) (record { number = 1; at = 0 })
     (cond (eqb (length s) 0) (record { number = 2; at = 0 })
     (firstFault n s 0 (recordsOf s)))
 
--- 1: "over 65,536 bytes"; 2: "kind unknown", where no record of the image begins; 1: "a record cut short". Row 1 is asked again after
--- row 2, of the record at that place: where none begins there is none that could be cut short.
+-- 1: "over 65,536 bytes"; 2: "kind unknown", if no record of the image begins at `at`; 1: "a record cut short". The last comes after row 2
+-- because it needs a record at `at`.
 unfoldable pub payloadFault : List ℕ → ℕ → ℕ
 payloadFault s at =
     cond (ltb 65536 (length s)) 1

@@ -1,6 +1,5 @@
--- Where in an accepted image only runs are left, which is where the listing reads on.
--- Paper: "Kind 1, first and once .. Kind 2, second, at most once .. Kind 3, any number". Cited by contracts of trm_listing.
--- Assumes nothing.
+-- The part of an accepted image after which only runs follow; the listing reads it run by run. Contracts of trm_listing cite it.
+-- Paper: "Kind 1, first and once .. Kind 2, second, at most once .. Kind 3, any number".
 use Prim.Native.Nat.{ℕ, _≤_}
 use mathlib.Core.Path.{_≡_}
 use mathlib.Core.List.{List}
@@ -8,8 +7,8 @@ use lib.ListN.{length, drop}
 use Rattle.trm_image.specs.Records.{kindAt, begins}
 use Rattle.trm_image.specs.Refused.{firstFault}
 
--- From the place `at` on no record of the image s is at fault, n being the store's length, and there are only runs: a record of kind
--- `before` stands before `at`, and if that is the program, kind 1, no first data words, kind 2, follow.
+-- From offset `at` on no record of the image s is at fault, n being the store's length, and all are runs: `before` is the kind of the
+-- record before `at`, and if that is the program, kind 1, the next is not of kind 2.
 pub record Runs (n : ℕ) (s : List ℕ) (at : ℕ) : Type 0 where
   pub before : ℕ
   pub some : before ≡ 0 → ⊥

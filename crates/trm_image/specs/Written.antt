@@ -1,8 +1,7 @@
--- An image written out: the bytes that the paper gives to a program, first data words and runs.
+-- An image written out: the bytes of a program, first data words and runs in the paper's format.
 -- Paper: "A record is a payload length (4 bytes, little-endian), a kind (2 bytes) and the payload. Kind 1, first and once: .. program
 -- words. Kind 2, second, at most once: first data words .. Kind 3, any number: 9 bytes, count .. (4), line byte, input word (4)".
--- Assumes nothing.
---   imageBytes second I   the bytes of I, with a record of kind 2 if `second`        Meant n I   what the paper asks of I
+--   imageBytes second I   the bytes of I, with a record of kind 2 if `second`        Meant n I   what the paper requires of I
 use Prim.Native.Nat.{ℕ, _/_, _%_, _≤_}
 use mathlib.Core.Path.{_≡_}
 use mathlib.Core.Bool.{Bool, true, cond, _&&_}
@@ -28,7 +27,7 @@ recordBytes kind payload = bytes4 (length payload) ++ bytes2 kind ++ payload
 
 unfoldable pub runBytes : List Run → List ℕ
 runBytes [] = []
-runBytes (r ∷ rs) = recordBytes 3 (bytes4 (r .count) ++ r .line ∷ bytes4 (r .input)) ++ runBytes rs
+runBytes (r ∷ rs) = recordBytes 3 (bytes4 (r .count) ++ r .lineByte ∷ bytes4 (r .input)) ++ runBytes rs
 
 unfoldable pub imageBytes : Bool → Image → List ℕ
 imageBytes second I =
@@ -39,9 +38,9 @@ imageBytes second I =
 -- "count 1–65,536"; no line byte above 7; an input word has 32 bits
 unfoldable pub runsOk : List Run → Bool
 runsOk [] = true
-runsOk (r ∷ rs) = leb 1 (r .count) && leb (r .count) 65536 && leb (r .line) 7 && leb (r .input) 4294967295 && runsOk rs
+runsOk (r ∷ rs) = leb 1 (r .count) && leb (r .count) 65536 && leb (r .lineByte) 7 && leb (r .input) 4294967295 && runsOk rs
 
--- a program that row 3 lets through, first data words of 32 bits, "none up to the store", runs as above
+-- a program that passes row 3, first data words of 32 bits, "none up to the store", and legal runs
 pub record Meant (n : ℕ) (I : Image) : Type 0 where
   pub program : programOk (I .program) ≡ true
   pub first : length (I .first) ≤ n

@@ -1,16 +1,16 @@
-// The rows of the table that an image can be refused by, and Accepted for none.
+// The rows of the refusal table that can refuse an image; `Accepted` means no fault.
 // Paper: "Where calls are turned down", rows 1, 2, 3, 4 and 6.
-// Their numbers are in specs/Numbers.antt.
+// specs/Numbers.antt defines the number of each.
 pub enum Fault {
     Accepted,
     Frame,
     Kind,
     Program,
     Store,
-    Lines,
+    LineBytes,
 }
 
-// A fault, and the byte where its record begins, "0 if too long or empty"; 0 also where there is no fault.
+// A fault and the byte offset where its record begins: "0 if too long or empty", and 0 if there is no fault.
 pub struct Checked {
     pub fault: Fault,
     pub at: usize,

@@ -1,8 +1,9 @@
 // What the reader, the listing and the library share; a function here may have a `requires`.
 // Paper: "Words are 4 bytes, little-endian like the rest".
-// `bytes`: a byte past the end reads as 0; `number`: of a fault; `part`: a payload; `rows`: the table; `words`: words put into an array.
+// `bytes`: reading bytes and words, 0 past the end; `fault_number`: the number of a fault; `image_rows`: the rows of the refusal table;
+// `load_words`: copying words into an array; `payload_part`: the payload of a record.
 pub mod bytes;
-pub mod number;
-pub mod part;
-pub mod rows;
-pub mod words;
+pub mod fault_number;
+pub mod image_rows;
+pub mod load_words;
+pub mod payload_part;

@@ -1,6 +1,6 @@
-// The calls on an image: the whole check, and a record's payload as a part of the image itself.
+// The calls on an image: the check of a whole image, and a record's payload as a slice of the image.
 // Paper: "checks it whole"; "The reader hands back the payload as a part of the image itself".
-// Any bytes, any offset, any store length has an outcome; nothing is written.
+// Any bytes, any offset and any store length give a result; nothing is written.
 ghost use mathlib.Core.Path.{_≡_};
 ghost use lib.Dec.{eqb};
 ghost use Rattle.trm_image.specs.Numbers.{numberOf};
@@ -9,8 +9,8 @@ ghost use Rattle.trm_image.specs.Promises.{CheckHolds, payloadGives};
 use crate::fault::Checked;
 use crate::fault::Fault;
 use crate::inner::bytes;
-use crate::inner::part;
-use crate::inner::rows;
+use crate::inner::image_rows;
+use crate::inner::payload_part;
 
 // Whether there is no fault.
 pub fn accepted(fault: Fault) -> bool
@@ -22,11 +22,11 @@ pub fn accepted(fault: Fault) -> bool
         Fault::Kind => false,
         Fault::Program => false,
         Fault::Store => false,
-        Fault::Lines => false,
+        Fault::LineBytes => false,
     }
 }
 
-// The image whole, for a store of so many words: its first fault and where that record begins.
+// Checks a whole image for a store of `words` words: the first fault, and where its record begins.
 pub fn check(image: &[u8], words: usize) -> Checked
     ensures { λ r. ⌜ CheckHolds words (now (image .entry)) r ⌝ }
 {
@@ -45,7 +45,7 @@ pub fn check(image: &[u8], words: usize) -> Checked
     let mut at: usize = 0;
     let mut before: u32 = 0;
     while at < image.len() {
-        let fault = rows::fault_at(image, before, at, words);
+        let fault = image_rows::fault_at(image, before, at, words);
         if !accepted(fault) {
             return Checked {
                 fault: fault,
@@ -61,23 +61,23 @@ pub fn check(image: &[u8], words: usize) -> Checked
     }
 }
 
-// Why the payload of the record that begins at this offset is refused: the image is too long, none begins there, or it is cut short.
+// Why the payload of the record at `at` is refused: the image is too long, no record begins there, or the record is cut short.
 pub fn payload_fault(image: &[u8], at: usize) -> Fault
     ensures { λ r. ⌜ numberOf r ≡ payloadFault (now (image .entry)) at ⌝ }
 {
     if image.len() > 65536 {
         return Fault::Frame;
     }
-    if !part::record_at(image, at) {
+    if !payload_part::record_at(image, at) {
         return Fault::Kind;
     }
-    if rows::cut_short(image, at) {
+    if image_rows::cut_short(image, at) {
         return Fault::Frame; // its end is missing
     }
     Fault::Accepted
 }
 
-// The payload of the record that begins at this offset, as a part of the image; no byte where it is refused.
+// The payload of the record at `at` as a slice of the image; empty if it is refused.
 pub fn payload(image: &[u8], at: usize) -> &[u8]
     ensures { λ r. ⌜ now r ≡ payloadGives (now (image .entry)) at ⌝ }
 {
@@ -85,5 +85,5 @@ pub fn payload(image: &[u8], at: usize) -> &[u8]
     if !accepted(fault) {
         return &image[0..0];
     }
-    part::part_at(image, at)
+    payload_part::part_at(image, at)
 }

@@ -1,6 +1,5 @@
--- Laws of general use, one theme to a file.
--- `Match`: what is left after the arms of a match. `Table`: one computed test gives a table's rows. `Tests`: laws of Bool tests.
--- Assumes nothing.
+-- General laws, one topic per file.
+-- `Match`: the number in the default arm of a match. `Table`: one computed test proves every row of a table. `Tests`: Bool tests.
 pub mod Match
 pub mod Table
 pub mod Tests

@@ -1,11 +1,10 @@
--- What is left to a `match` on a number after its arms n, n + 1, .., in their order.
--- By induction on the number of arms; the match's `rest` is the product of what they rule out.
--- Assumes nothing.
+-- A `match` on a number with the arms n, n + 1, ..: in the default arm the number is above all of them.
+-- By induction on the number of arms; the match's `rest` has one inequality per arm.
 use mathlib.Core.Path.{_≡_}
 use Prim.Native.Nat.{ℕ, zero, suc, _+_, _≤_}
 use native.Mathlib.Omega.{arith}
 
--- k is none of the m numbers from n on
+-- k is none of the m numbers n, n + 1, ..
 abbrev pub NoneFrom : ℕ → ℕ → ℕ → Type 0
 NoneFrom n zero k = Unit {0}
 NoneFrom n (suc m) k = NoneFrom n m k × (k ≡ m + n → ⊥)

@@ -1,6 +1,5 @@
--- A table whose rows each hold two lists of numbers: one test computes all rows, and a true test gives the equation of each row.
--- By induction on the lists. `Holds` is what a table claims: any property of its rows that an equation carries on by one row.
--- Assumes nothing.
+-- Tables whose rows have a computed and an expected list of numbers: one Bool test of the whole table proves all rows equal.
+-- By induction on the rows. `Holds` is the table's claim: any property of a list of rows that the equation of one more row extends.
 use mathlib.Core.Path.{_≡_, refl, ap₂}
 use mathlib.Core.Bool.{Bool, true, false, false≢true, _&&_, and-eq-true-iff}
 use mathlib.Core.List.{List, [], _∷_}

@@ -1,6 +1,5 @@
--- Laws of tests: conjunctions, a disjunction, two tests that agree, and what passes through a `cond`.
--- Idea: by cases on the Bool.
--- Assumes nothing.
+-- Laws of Bool tests: conjunction, disjunction, equivalent tests, and properties of a `cond`.
+-- By cases of the Bool.
 use Prim.Native.Nat.{ℕ}
 use mathlib.Core.Path.{_≡_, refl, sym, ap, _∙_}
 use mathlib.Core.Bool.{Bool, true, false, cond, _&&_, _||_}
@@ -9,14 +8,14 @@ use borrow.Author.Tests.{eq-eqb, ne-eqb}
 use native.Mathlib.Omega.{arith}
 use native.Mathlib.Decide.{ℕ-discrete}
 
--- no test is both
+-- no test is both true and false
 pub bool-clash : {A : Type 0} (b : Bool) → b ≡ true → b ≡ false → A
 bool-clash b p q = absurd (let z : _≡_ {A = ℕ} 0 1 = cc in omega arith)
 
 pub clash : {A : Type 0} → false ≡ true → A
 clash e = bool-clash false e refl
 
--- a conjunction, made and taken apart
+-- a conjunction: introduced, and split into its parts
 infixl 40 _&t_
 pub _&t_ : {a b : Bool} → a ≡ true → b ≡ true → a && b ≡ true
 _&t_ p q = rw (p, q)
@@ -36,11 +35,11 @@ pub or-right : (a b : Bool) → b ≡ true → a || b ≡ true
 or-right true b e = refl
 or-right false b e = e
 
--- a test of a known number
+-- equal numbers give equal tests
 pub test-at : {a b : ℕ} → a ≡ b → (c : ℕ) → eqb a c ≡ eqb b c
 test-at q c = ap (λ x. eqb x c) q
 
--- tests of facts that imply each other
+-- tests of equivalent facts are equal
 pub same-test : (a b c d : ℕ) → (a ≡ b → c ≡ d) → (c ≡ d → a ≡ b) → eqb a b ≡ eqb c d
 same-test a b c d f g = go (ℕ-discrete a b)
   where
@@ -48,7 +47,7 @@ same-test a b c d f g = go (ℕ-discrete a b)
     go (yes e) = eq-eqb a b e ∙ sym (eq-eqb c d (f e))
     go (no z) = ne-eqb a b z ∙ sym (ne-eqb c d (λ y. z (g y)))
 
--- what holds of both choices holds of the chosen one
+-- a property of both choices is a property of the `cond`
 pub chosen-by : {A : Type 0} (P : A → Type 0) (t : Bool) {a b : A} → (t ≡ true → P a) → (t ≡ false → P b) → P (cond t a b)
 chosen-by P true f g = f refl
 chosen-by P false f g = g refl

@@ -1,3 +1,3 @@
-// Laws of general use that the crates above share: no function, no definition that a contract cites.
-// In `proofs/`: what is left after the arms of a match, a table's rows from one computed test, laws of Bool tests.
+// General laws that the other crates use: no functions, and no definitions that a contract cites.
+// In `proofs/`: the default arm of a match, a table's rows from one computed test, Bool tests.
 // Nothing here need be read to know what is claimed.

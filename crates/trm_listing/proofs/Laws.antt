@@ -1,7 +1,6 @@
--- The laws, one theme to a file.
--- `Held`: held clocks; `Along`: run after run; `Whole`: the whole output; `Load`: program and store; `Piece`: one piece;
--- `Examples`: listings computed.
--- Assumes nothing.
+-- The laws, a topic per file.
+-- `Held`: held clocks; `Along`: run by run; `Whole`: the whole output; `Load`: program and store; `Piece`: one piece;
+-- `Examples`: computed listings.
 pub mod Held
 pub mod Along
 pub mod Whole

@@ -1,6 +1,5 @@
 -- The value of the claims of this crate.
 -- Idea: the field is a law of Laws/.
--- Assumes nothing.
 use Rattle.trm_listing.specs.Claims.{Claims}
 use Rattle.trm_listing.proofs.Laws.Examples.{examples-hold}
 

@@ -1,6 +1,6 @@
--- Images and their listings, written out: rows of one table, computed by the checker.
+-- A table of images and their listings, computed by the checker.
 -- Paper: the example of "Images and the listing program", byte for byte; the other rows were worked out by hand from the clock table.
--- Each line of a listing stands under itself. Assumes nothing.
+-- The comment above the bytes of each row of a listing is its text.
 use Prim.{Unit}
 use Prim.Native.Nat.{ℕ}
 use mathlib.Core.Path.{_≡_}
@@ -11,7 +11,7 @@ pub record Example : Type 0 where
   pub image : List ℕ
   pub listing : List ℕ
 
--- the paper's own
+-- the paper's example
 unfoldable pub paperExample : Example
 paperExample =
     record {
@@ -37,7 +37,7 @@ paperExample =
           ∷ 32 ∷ 48 ∷ 32 ∷ 119 ∷ 114 ∷ 105 ∷ 116 ∷ 101 ∷ 98 ∷ 97 ∷ 99 ∷ 107 ∷ 115 ∷ 32 ∷ 48 ∷ 10 ∷ []);
     }
 
--- both interrupts enabled; three held clocks and one more with line 1 high; two held clocks; one clock
+-- both interrupts enabled; three held clocks and one more with interrupt line 1 high; two held clocks; one clock
 unfoldable pub interruptExample : Example
 interruptExample =
     record {
@@ -62,7 +62,7 @@ interruptExample =
           ∷ 48 ∷ 32 ∷ 119 ∷ 114 ∷ 105 ∷ 116 ∷ 101 ∷ 98 ∷ 97 ∷ 99 ∷ 107 ∷ 115 ∷ 32 ∷ 48 ∷ 10 ∷ []);
     }
 
--- the cache turned on; ST to 0, LD from 128, ST to 128; the cache turned off; a MUL that is not finished
+-- the cache is turned on; ST to 0, LD from 128, ST to 128; the cache is turned off; a MUL that does not finish
 unfoldable pub cacheExample : Example
 cacheExample =
     record {
@@ -89,7 +89,7 @@ cacheExample =
           ∷ 32 ∷ 50 ∷ 32 ∷ 119 ∷ 114 ∷ 105 ∷ 116 ∷ 101 ∷ 98 ∷ 97 ∷ 99 ∷ 107 ∷ 115 ∷ 32 ∷ 50 ∷ 10 ∷ []);
     }
 
--- a run of no clock
+-- a run of 0 clocks
 unfoldable pub refusedExample : Example
 refusedExample =
     record {

@@ -1,6 +1,5 @@
 -- The definitions of the listing, in reading order.
 -- Paper: "Images and the listing program".
--- Assumes nothing.
 pub mod Listing
 pub mod Examples
 pub mod Rest

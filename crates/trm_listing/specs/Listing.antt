@@ -1,7 +1,6 @@
--- The lines of an image's clocks, and the bytes that the listing program writes.
+-- The rows of an image's clocks, and the bytes that the listing program writes. Read `outputOf`.
 -- Paper: "`trmlist` reads an image .. with a store of 2,048 words, checks it whole, and runs it"; "A refusal prints one line".
--- Assumes nothing.
---   linesOf I   the lines of an image        finalOf I   where its clocks end        outputOf s   what is written for the bytes s
+--   rowsOf I   the rows of an image        finalOf I   the state after its clocks        outputOf s   what is written for the bytes s
 use Prim.Native.Nat.{ℕ, _-_}
 use mathlib.Core.Bool.{cond}
 use mathlib.Core.List.{List, [], _∷_, _++_}
@@ -13,12 +12,12 @@ use Rattle.trm_core.specs.Record.{Lent, resetOf}
 use Rattle.trm_core.specs.Clock.{clockOf}
 use Rattle.trm_image.specs.Meaning.{Run, Image, imageOf}
 use Rattle.trm_image.specs.Refused.{imageFault}
-use Rattle.trm_text.specs.Lines.{Line, linesBytes, header, refusedBytes}
-use Rattle.trm_lines.specs.Lines.{linesFrom, endLine}
+use Rattle.trm_list_text.specs.Rows.{Row, rowsBytes, header, refusedBytes}
+use Rattle.trm_list_rows.specs.Rows.{rowsFrom, endRow}
 
--- "count .., line byte, input word": so many clocks with the same pins
+-- "count .., line byte, input word": `count` clocks with the same inputs
 abbrev pub pinsOfRun : Run → Pins
-pinsOfRun r = record { line = r .line; input = r .input }
+pinsOfRun r = record { lineByte = r .lineByte; input = r .input }
 
 unfoldable pub pinsOfRuns : List Run → List Pins
 pinsOfRuns [] = []
@@ -28,20 +27,20 @@ pinsOfRuns (r ∷ rs) = replicate (r .count) (pinsOfRun r) ++ pinsOfRuns rs
 unfoldable pub firstStore : List ℕ → List ℕ
 firstStore first = first ++ replicate (2048 - length first) 0
 
--- after the reset
+-- the state after the reset
 unfoldable pub startOf : List ℕ → Lent
 startOf first = record { machine = resetOf paperGeometry (firstStore first); store = firstStore first }
 
-unfoldable pub linesOf : Image → List Line
-linesOf I = linesFrom (I .program) (startOf (I .first)) 0 (pinsOfRuns (I .runs))
+unfoldable pub rowsOf : Image → List Row
+rowsOf I = rowsFrom (I .program) (startOf (I .first)) 0 (pinsOfRuns (I .runs))
 
--- where the image's clocks end
+-- the state after all clocks of the image
 unfoldable pub finalOf : Image → Lent
 finalOf I =
     endOf (startOf (I .first)) (clocks (clockOf paperGeometry (I .program)) (startOf (I .first)) (pinsOfRuns (I .runs)))
 
 unfoldable pub listingOf : Image → List ℕ
-listingOf I = header ++ linesBytes (linesOf I) ++ endLine (finalOf I)
+listingOf I = header ++ rowsBytes (rowsOf I) ++ endRow (finalOf I)
 
 unfoldable pub outputOf : List ℕ → List ℕ
 outputOf s =

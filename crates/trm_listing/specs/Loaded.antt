@@ -1,6 +1,5 @@
--- An accepted image loaded: its first data words in the store, and where its runs begin. Terms of inner contracts.
+-- An accepted image loaded: its first data words in the store, and where its runs begin. Contracts of `inner` use this.
 -- Paper: "Kind 2, second, at most once: first data words, .. the rest being zero".
--- Assumes nothing.
 use Prim.Native.Nat.{ℕ}
 use mathlib.Core.Path.{_≡_}
 use mathlib.Core.List.{List}

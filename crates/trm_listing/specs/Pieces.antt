@@ -1,5 +1,5 @@
--- A listing piece by piece: what the first and each next piece puts into the buffer, and what is still to come.
--- Paper: none; that a listing comes in pieces is ours (D-65). The bytes are `outputOf`. Assumes nothing.
+-- A listing in pieces: what the first and every later piece writes to the buffer, and what is still to come.
+-- Paper: nothing; that a listing comes in pieces is our choice (D-65). The bytes are `outputOf`.
 --   restOf s p st l   what is to be written after the pieces so far        StartHolds, PieceHolds   the contracts
 use Prim.Native.Nat.{ℕ, _-_, _≤_, _<_}
 use mathlib.Core.Path.{_≡_}
@@ -8,40 +8,40 @@ use mathlib.Core.List.{List, [], _++_}
 use lib.ListN.{length, take, replicate}
 use lib.Dec.{eqb}
 use Rattle.trm_core.specs.Record.{Lent}
-use Rattle.trm_engine.specs.Machine.{recordOf}
+use Rattle.trm_run_machine.specs.Machine.{recordOf}
 use Rattle.trm_image.specs.Refused.{imageFault}
 use Rattle.trm_image.specs.Meaning.{imageOf}
-use Rattle.trm_text.specs.Lines.{endBytes}
-use Rattle.trm_text.specs.Wrote.{Wrote}
+use Rattle.trm_list_text.specs.Rows.{endBytes}
+use Rattle.trm_list_text.specs.Wrote.{Wrote}
 use Rattle.trm_listing.specs.declared.inner.runs.Place.{Place}
 use Rattle.trm_listing.specs.declared.inner.finish.Ended.{Ended}
 use Rattle.trm_listing.specs.declared.inner.pieces.Listing.{Listing}
 use Rattle.trm_listing.specs.Listing.{firstStore, outputOf}
-use Rattle.trm_lines.specs.Onward.{textFrom}
+use Rattle.trm_list_rows.specs.Onward.{textFrom}
 use Rattle.trm_listing.specs.Rest.{pinsLeft, Stands}
 
 abbrev pub lentBy : Listing → List ℕ → Lent
 lentBy l st = record { machine = recordOf (l .machine); store = st }
 
--- where it stands in the image, a new piece being empty
+-- its place in the image, with an empty buffer
 abbrev pub placeOf : Listing → Place
 placeOf l =
     record {
       listed = record { scalars = l .machine .scalars; left = l .left; took = l .took; len = 0 };
       at = l .at;
-      line = l .line;
+      pins = l .pins;
       input = l .input;
     }
 
--- s the image, p the program's words, st the store
+-- s: the image; p: the program's words; st: the store
 unfoldable pub restOf : List ℕ → List ℕ → List ℕ → Listing → List ℕ
 restOf s p st l = cond (l .over) [] (textFrom p (lentBy l st) (l .took) (pinsLeft s (placeOf l)))
 
--- a listing that is not over stands in its image
+-- a listing that is not over is at a legal place of its image
 abbrev pub Ready : List ℕ → List ℕ → List ℕ → Listing → Type 0
 Ready s p st l = l .over ≡ false → Stands s p (placeOf l) (lentBy l st) []
 
--- the arrays of program and store after the first piece: an accepted image is loaded, a refused one leaves them as they were
+-- the arrays of program and store after the first piece: an accepted image is loaded, a refused one leaves them unchanged
 abbrev pub programAfter : List ℕ → List ℕ → List ℕ
 programAfter s old =
     cond (eqb (imageFault 2048 s .number) 0)
@@ -50,7 +50,7 @@ programAfter s old =
 abbrev pub storeAfter : List ℕ → List ℕ → List ℕ
 storeAfter s old = cond (eqb (imageFault 2048 s .number) 0) (firstStore (imageOf s .first)) old
 
--- the first piece: program and store are loaded, and the buffer holds the header, or the line of a refusal
+-- the first piece: program and store are loaded and the buffer holds the header, or it holds the row of a refusal
 pub record StartHolds (s program₀ st₀ b₀ : List ℕ) (r : Listing) (program st b : List ℕ) : Type 0 where
   pub text : outputOf s ≡ take (r .len) b ++ restOf s (take (r .words) program) st r
   pub ready : Ready s (take (r .words) program) st r
@@ -62,7 +62,7 @@ pub record StartHolds (s program₀ st₀ b₀ : List ℕ) (r : Listing) (progra
   pub stored : length st ≡ 2048
   pub long : length b ≡ length b₀
 
--- any other: it holds the next bytes, and some unless it is the last
+-- any later piece: it holds the next bytes, at least one unless it is the last
 pub record PieceHolds (s p st b : List ℕ) (l r : Listing) (st′ b′ : List ℕ) : Type 0 where
   pub text : restOf s p st l ≡ take (r .len) b′ ++ restOf s p st′ r
   pub ready : Ready s p st′ r
@@ -72,7 +72,7 @@ pub record PieceHolds (s p st b : List ℕ) (l r : Listing) (st′ b′ : List �
   pub stored : length st′ ≡ length st
   pub long : length b′ ≡ length b
 
--- the last line, put if all runs are over and there is room for it
+-- the last row, written if all runs are over and there is room for it
 pub record EndHolds (q : Place) (b : List ℕ) (r : Ended) (b′ : List ℕ) : Type 0 where
   pub text : Wrote b (q .listed .len)
       (cond (r .over)

@@ -1,4 +1,4 @@
-// The listing of an image: which lines it has, and their bytes, piece by piece.
+// The listing of an image: which rows it has, and their bytes, in pieces.
 // Paper: "Images and the listing program".
-// Its functions stand in `inner`: a listing is begun and goes on by what it asks for itself.
+// Its functions are in `inner`, because a later piece requires a listing that was begun (D-65).
 pub mod inner;

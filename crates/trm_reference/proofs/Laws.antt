@@ -1,6 +1,5 @@
--- The laws, one theme to a file.
--- `Execute`: what carrying a word out, or taking an interrupt, keeps. `Trace`: the clock history. `Tables`: the tables hold.
--- Assumes nothing.
+-- Laws about the reference machine, one topic per file.
+-- `Execute`: what executing a word or taking an interrupt preserves. `Trace`: the clock history. `Tables`: the tables hold.
 pub mod Execute
 pub mod Trace
 pub mod Tables

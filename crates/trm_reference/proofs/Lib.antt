@@ -1,5 +1,4 @@
--- The laws of the reference machine, for the proofs above it, and the value of its claims.
+-- The laws of the reference machine that other proofs use, and the proof of its claims.
 -- Nothing here need be read to know what is claimed.
--- Assumes nothing.
 pub mod Laws
 pub mod Theorems

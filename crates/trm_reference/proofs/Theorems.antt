@@ -1,6 +1,4 @@
--- The value of the claims on the reference machine: every field of `Claims` is proved.
--- Idea: each field is a table of Laws/Tables.antt.
--- Assumes nothing.
+-- Proves every field of `Claims`; each is a table of Laws/Tables.antt.
 use Rattle.trm_reference.specs.Claims.{Claims}
 use Rattle.trm_reference.proofs.Laws.Tables.{starred-hold, clock-table-holds, executed-hold, accesses-hold}
 use Rattle.trm_reference.proofs.Laws.Tables.{interrupts-hold, histories-hold, stalls-hold}

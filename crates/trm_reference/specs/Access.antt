@@ -1,8 +1,8 @@
--- LD and ST: the address, the device or word of memory that it names, its block and line, and what a clock answers.
+-- LD and ST: the address, the device or memory word that it names, its block and cache line, and the answer of a clock.
 -- Paper: "12 LD and 13 ST: address = ..", "a byte (bit 0 read, bit 1 write, bits 2–7 device) and the word moved, both zero without
--- an access". The length of memory is n, a legal store length. Assumes nothing.
+-- an access". The length of memory is n, a legal store length.
 --   placeOfWord w v n   what the word w accesses      toMemory, toDevice   which of the two      target   the word of memory
---   answerOf w v n i    what the clock that carries w out answers, i being the clock's input word
+--   answerOf w v n i    the answer of the clock that executes w; i is the clock's input word
 use Prim.Native.Nat.{ℕ, _+_, _*_}
 use mathlib.Core.Bool.{Bool, true, false, cond, not, _&&_, _||_}
 use lib.Dec.{eqb}
@@ -32,12 +32,12 @@ unfoldable pub isMemory : Place → Bool
 isMemory (Device d) = false
 isMemory (Memory a) = true
 
--- the word of memory, "taken mod the store's length"; used only where a place is memory
+-- the word of memory, "taken mod the store's length"; used only if the place is memory
 unfoldable pub memoryIndex : Place → ℕ
 memoryIndex (Device d) = 0
 memoryIndex (Memory a) = a
 
--- the device; used only where a place is one
+-- the device; used only if the place is one
 unfoldable pub deviceNumber : Place → ℕ
 deviceNumber (Device d) = d
 deviceNumber (Memory a) = 0
@@ -54,7 +54,7 @@ toDevice w v n = isAccess w && not (isMemory (placeOfWord w v n))
 unfoldable pub target : ℕ → Visible → ℕ → ℕ
 target w v n = memoryIndex (placeOfWord w v n)
 
--- the block and the line of the word's access
+-- the block and the cache line that the word accesses
 unfoldable pub targetBlock : Geometry → ℕ → Visible → ℕ → ℕ
 targetBlock G w v n = blockOf G (target w v n)
 
@@ -65,11 +65,11 @@ targetLine G w v n = lineOf G (targetBlock G w v n)
 unfoldable pub stored : ℕ → Visible → ℕ
 stored w v = register v (destination w)
 
--- the word that LD loads: from memory the word x there, from a device the clock's input word i
+-- the word that LD loads: x from memory, or the clock's input word i from a device
 unfoldable pub loaded : ℕ → Visible → ℕ → ℕ → ℕ → ℕ
 loaded w v n i x = cond (isMemory (placeOfWord w v n)) x i
 
--- what one clock answers, and 1 if it carried a word out
+-- the answer of one clock; `done` is 1 if it executed a word
 pub record Answer : Type 0 where
   pub byte : ℕ
   pub word : ℕ
@@ -79,7 +79,7 @@ pub record Answer : Type 0 where
 abbrev pub silent : ℕ → Answer
 silent done = record { byte = 0; word = 0; done = done }
 
--- "bit 0 read, bit 1 write, bits 2–7 device": a read moves the input word, a write R.d
+-- "bit 0 read, bit 1 write, bits 2–7 device": a read answers the input word, a write R.d
 unfoldable pub deviceAnswer : ℕ → Visible → ℕ → ℕ → Answer
 deviceAnswer w v i d =
     cond (isStore w)

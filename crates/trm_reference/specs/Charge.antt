@@ -1,8 +1,7 @@
--- The clock table: which line of it a word falls under, and the clocks it is charged.
--- Paper: "Clock by clock", the table. The charge is the base charge of the operation and what the other lines add to it.
--- Assumes nothing.
---   chargeBy G w v n misses evicts dirty   the charge, told whether the access misses, whether the old block is dirty, and how many
---                                          lines are dirty: the reference machine judges these by its history
+-- The clock table: which row applies to a word, and the clocks it is charged.
+-- Paper: "Clock by clock", the table. The charge is the base charge of the operation plus what the other rows add.
+--   chargeBy G w v n misses evicts dirty   the charge, given whether the access misses, whether the old block is dirty, and how many
+--                                          lines are dirty: the reference machine computes these from its history
 use Prim.Native.Nat.{ℕ, _+_, _*_}
 use mathlib.Core.Bool.{Bool, cond, not, _&&_, _||_}
 use lib.Dec.{eqb}
@@ -33,11 +32,11 @@ throughCache w v n = toMemory w v n && cacheOn v
 unfoldable pub pastCache : ℕ → Visible → ℕ → Bool
 pastCache w v n = toMemory w v n && not (cacheOn v)
 
--- "11 clearing status bit 3": bit 10 clear, the bit set now and clear in the word
+-- "11 clearing status bit 3": bit 10 of the word clear, status bit 3 set now and clear in the word
 unfoldable pub turnsCacheOff : ℕ → Visible → Bool
 turnsCacheOff w v = eqb (operation w) 11 && not (isSet (bit 10 w)) && cacheOn v && not (isSet (bit 3 w))
 
--- "12; 22 if the old block is dirty": a looking clock, the bursts, a last clock
+-- "12; 22 if the old block is dirty": the tag-check clock, the bursts, the last clock
 unfoldable pub missCharge : Geometry → Bool → ℕ
 missCharge G evicts = 2 + burst G + cond evicts (burst G) 0
 

@@ -1,6 +1,5 @@
--- What is claimed of the reference machine: in the cases of seven tables its definitions give what the paper gives.
--- Paper: "Bench cases", the clock table, "What a programmer sees", "Clock by clock". The value is in proofs/Theorems.antt.
--- Assumes nothing.
+-- Claims about the reference machine: in every case of seven tables its definitions compute what the paper says.
+-- Paper: "Bench cases", the clock table, "What a programmer sees", "Clock by clock". Proved in proofs/Theorems.antt.
 use Rattle.trm_reference.specs.Tables.{AllHold}
 use Rattle.trm_reference.specs.Tables.Starred.{starred}
 use Rattle.trm_reference.specs.Tables.ClockTable.{clockTable}
@@ -10,11 +9,11 @@ use Rattle.trm_reference.specs.Tables.Interrupts.{interrupts}
 use Rattle.trm_reference.specs.Tables.Histories.{histories}
 use Rattle.trm_reference.specs.Tables.Stalls.{stalls}
 
--- Every starred bench case holds: three by the address or place of a load, the others carried out as words.
+-- Every starred bench case holds: three for the address or place of a load, the others by executing words.
 abbrev pub StarredHold : Type 0
 StarredHold = AllHold starred
 
--- A word of each line of the clock table, in each of its forms, is charged the clocks of that line.
+-- A word of each row of the clock table, in each of its forms, is charged the clocks of that row.
 abbrev pub ClockTableHolds : Type 0
 ClockTableHolds = AllHold clockTable
 
@@ -22,8 +21,8 @@ ClockTableHolds = AllHold clockTable
 abbrev pub ExecutedHold : Type 0
 ExecutedHold = AllHold executed
 
--- In each case LD and ST reach the address, the word of memory and the device of the paper, in their last clock, and no other word;
--- an accepted reset gives zeros and the words lent.
+-- In each case LD and ST access the address, memory word and device that the paper says, in their last clock, and no other word;
+-- an accepted reset gives zeros and the words of the store.
 abbrev pub AccessesHold : Type 0
 AccessesHold = AllHold accesses
 
@@ -31,11 +30,11 @@ AccessesHold = AllHold accesses
 abbrev pub InterruptsHold : Type 0
 InterruptsHold = AllHold interrupts
 
--- In each case the history tells which access refills and which lines are dirty, and a ten counts in the clock in which it is over.
+-- In each case the history determines which access refills and which lines are dirty, and a burst is counted in its last clock.
 abbrev pub HistoriesHold : Type 0
 HistoriesHold = AllHold histories
 
--- In each case a word finishes later by the number of its held clocks, with the same outcome.
+-- In each case held clocks delay the end of a word by their number and do not change its outcome.
 abbrev pub StallsHold : Type 0
 StallsHold = AllHold stalls
 

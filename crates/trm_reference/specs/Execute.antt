@@ -1,7 +1,6 @@
--- What each of the sixteen operations does to what a programmer sees; x is the word that LD loads.
+-- The semantics of the sixteen operations: what each does to what a programmer sees; x is the word that LD loads.
 -- Paper: "What a programmer sees", the list from 0 MOV to 15. Results and flags of 0–10 are those of trm_alu.
--- Assumes nothing.
---   execute w v x   all that is seen once the word w is carried out
+--   execute w v x   the visible state after the word w is executed
 use Prim.Native.Nat.{ℕ, _+_, _%_}
 use mathlib.Core.Bool.{Bool, cond}
 use lib.Dec.{ltb, eqb}
@@ -34,7 +33,7 @@ calculated w v =
       status = v .status;
     }
 
--- what is seen with another PC, and with other registers too
+-- the visible state with another PC, and also with R.r := x
 abbrev pub wentTo : Visible → ℕ → Visible
 wentTo v pc =
     record { pc = pc; regs = v .regs; h = v .h; n = v .n; z = v .z; c = v .c; v = v .v; status = v .status }
@@ -94,7 +93,7 @@ jumped w v =
 unfoldable pub branchTaken : ℕ → Visible → Bool
 branchTaken w v = conditionHolds (condition w) (v .n) (v .z) (v .c) (v .v)
 
--- "PC := PC+1+signed bits 9–0": from 512 on ten bits stand for themselves less 1,024, which mod 4,096 is 3,072 more
+-- "PC := PC+1+signed bits 9–0": from 512 on the ten bits represent their value minus 1,024, which mod 4,096 is 3,072 more
 unfoldable pub branchTarget : ℕ → ℕ → ℕ
 branchTarget pc offset = (pc + 1 + offset + cond (ltb offset 512) 0 3072) % 4096
 

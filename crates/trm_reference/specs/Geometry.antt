@@ -1,6 +1,6 @@
--- The cache's figures: lines, words of a line, waits before the words of a burst; the block and the line of an address.
+-- The cache geometry: lines, words per line, waits before the words of a burst; the block and the line of an address.
 -- Paper: "The cache has 16 lines of 8 words", "Each ten is two waits and eight words", "Block = address .. /8 rounded down;
--- line = block mod 16". Every definition of the cache, the charges and the history takes them as a parameter. Assumes nothing.
+-- line = block mod 16". Every definition of the cache, the charges and the history takes them as a parameter.
 --   paperGeometry   16, 8, 2       burst G   the clocks of one write-back or refill (the paper's "ten")
 use Prim.Native.Nat.{ℕ, _+_, _/_, _%_}
 use mathlib.Core.Bool.{Bool, false, _&&_, _||_}
@@ -15,7 +15,7 @@ pub record Geometry : Type 0 where
 abbrev pub paperGeometry : Geometry
 paperGeometry = record { lines = 16; words = 8; waits = 2 }
 
--- the figures that the definitions are claimed for: lines 4, 8, 16, 32 or 64, words 4, 8 or 16, waits 0 to 15; the paper's are among them
+-- the geometries that the claims cover: 4, 8, 16, 32 or 64 lines, 4, 8 or 16 words, 0 to 15 waits; the paper's is one of them
 unfoldable pub oneOf : ℕ → List ℕ → Bool
 oneOf n [] = false
 oneOf n (k ∷ ks) = eqb n k || oneOf n ks

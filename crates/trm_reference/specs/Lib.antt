@@ -1,6 +1,5 @@
--- The reference machine, in reading order: geometry, what a programmer sees, what a word does, what it costs, one clock.
+-- The reference machine, in reading order: geometry, what a programmer sees, what a word does, its clocks, one clock.
 -- Paper: "What a programmer sees", "Clock by clock", "The plain machine of demand 3".
--- Assumes nothing.
 pub mod Geometry
 pub mod Visible
 pub mod Access

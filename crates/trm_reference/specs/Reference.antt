@@ -1,8 +1,7 @@
 -- The reference machine ("plain machine"): its state, its charge, and one clock.
 -- Paper: "The plain machine of demand 3 has what a programmer sees, a flat memory, a history, clocks left and counts".
--- Assumes nothing.
---   charge G w q                  the clocks of the word w, by its own state and history
---   referenceClock G p q pins     one clock        referenceReset s   after an accepted reset
+--   charge G w q                  the clocks of the word w, from the state and the history
+--   referenceClock G p q pins     one clock        referenceReset s   the state after an accepted reset
 use Prim.Native.Nat.{ℕ, _+_, _-_, _%_}
 use mathlib.Core.Bool.{Bool, cond, _&&_}
 use mathlib.Core.List.{List, [], _∷_}
@@ -43,7 +42,7 @@ referenceReset s =
     }
 
 module _ (G : Geometry) (w : ℕ) (q : Reference) where
-  -- "an access refills unless .."; the old block is dirty
+  -- "an access refills unless .."; `evicts`: the old block is dirty
   unfoldable pub misses : Bool
   misses = refillsNow G (q .history) (targetBlock G w (q .visible) (length (q .memory)))
 
@@ -54,8 +53,8 @@ module _ (G : Geometry) (w : ℕ) (q : Reference) where
   unfoldable pub charge : ℕ
   charge = chargeBy G w (q .visible) (length (q .memory)) misses evicts (dirtyLines G (q .history))
 
-  -- "A refill or write-back counts when its ten is over": a refill with its last clock left, a write-back of an access with the
-  -- refill and the last clock left, one of an emptying with a whole number of tens and the last clock left
+  -- "A refill or write-back counts when its ten is over": a refill when the last clock is left, the write-back of an access when the
+  -- refill and the last clock are left, one of an emptying when a whole number of bursts and the last clock are left
   unfoldable pub refillOver : ℕ → ℕ
   refillOver left = cond (throughCache w (q .visible) (length (q .memory)) && misses && eqb left 1) 1 0
 
@@ -78,7 +77,7 @@ module _ (G : Geometry) (w : ℕ) (q : Reference) where
       (access (record { block = targetBlock G w (q .visible) (length (q .memory)); store = isStore w }) ∷ q .history)
       (cond (turnsCacheOff w (q .visible)) (emptying ∷ q .history) (q .history))
 
-  -- the word is carried out; i is this clock's input word; the word of memory is used by LD from memory alone
+  -- the word is executed; i is this clock's input word; only LD from memory uses the word of memory
   unfoldable pub carryOut : ℕ → After Reference Answer
   carryOut i = record {
     state = record {
@@ -95,7 +94,7 @@ module _ (G : Geometry) (w : ℕ) (q : Reference) where
     out = answerOf w (q .visible) (length (q .memory)) i;
   }
 
-  -- the clock goes by and this many are left
+  -- a clock that does not execute the word; `left` clocks remain
   unfoldable pub spend : ℕ → After Reference Answer
   spend left = record {
     state = record {
@@ -152,11 +151,11 @@ module _ (G : Geometry) where
   unfoldable pub referenceUnheld : ℕ → Reference → Pins → After Reference Answer
   referenceUnheld w q pins =
       cond (eqb (q .left) 0)
-      (cond (eqb (interruptChosen (q .visible .status) (pins .line)) 0)
+      (cond (eqb (interruptChosen (q .visible .status) (pins .lineByte)) 0)
       (takeOff G w q (charge G w q) (pins .input))
-      (referenceInterrupt (interruptChosen (q .visible .status) (pins .line)) q))
+      (referenceInterrupt (interruptChosen (q .visible .status) (pins .lineByte)) q))
       (takeOff G w q (q .left) (pins .input))
 
   unfoldable pub referenceClock : List ℕ → Reference → Pins → After Reference Answer
   referenceClock p q pins =
-      cond (stalled (pins .line)) (referenceHeld q) (referenceUnheld (wordAt p (q .visible .pc)) q pins)
+      cond (stalled (pins .lineByte)) (referenceHeld q) (referenceUnheld (wordAt p (q .visible .pc)) q pins)

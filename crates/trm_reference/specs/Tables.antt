@@ -1,7 +1,7 @@
--- Cases of the reference machine, computed: a row holds a list that the definitions give and the list that the paper gives.
--- Paper: as each table says. A negative number is written as 2^32 less its magnitude. The expected lists were worked out from the
--- paper. Here stand the rows, the words and the small machines; each table is a file of its own. Assumes nothing.
---   row c e   the row that holds c, computed, and e, expected       AllHold rs   each row's two lists are equal
+-- Test cases of the reference machine: a row has a list that the definitions compute and the list expected from the paper.
+-- Paper: see each table. A negative number is written as 2^32 minus its magnitude.
+-- This file has the rows, words and small machines that the tables use; each table has its own file.
+--   row c e   the row of c, computed, and e, expected       AllHold rs   the two lists of every row are equal
 use Prim.Native.Nat.{ℕ, suc, _+_, _*_, _^_}
 use mathlib.Core.Path.{_≡_}
 use mathlib.Core.Bool.{true, false, cond}
@@ -65,22 +65,22 @@ branchWord condition offset = 14 * 2 ^ 14 + condition * 2 ^ 10 + offset
 abbrev pub callWord : ℕ → ℕ
 callWord offset = 15 * 2 ^ 14 + offset
 
--- What is seen, all zero but for R1 and R2 of bank 0 and the status.
+-- A visible state, all zero except R1 and R2 of bank 0 and the status.
 abbrev pub holding : ℕ → ℕ → ℕ → Visible
 holding r1 r2 status =
     record { pc = 0; regs = 0 ∷ r1 ∷ r2 ∷ replicate 13 0; h = 0; n = 0; z = 0; c = 0; v = 0; status = status }
 
--- R0–R7 of bank 0, then of bank 1: each is 100H and its place, but R6 of either bank is an address to return to, with flags
+-- R0–R7 of bank 0, then of bank 1: each is 100H plus its index, except R6 of both banks, which is a return address with flags
 abbrev pub registers : List ℕ
 registers =
     0x100 ∷ 0x101 ∷ 0x102 ∷ 0x103 ∷ 0x104 ∷ 0x105 ∷ 0xA000_0FFF ∷ 0x107
     ∷ 0x108 ∷ 0x109 ∷ 0x10A ∷ 0x10B ∷ 0x10C ∷ 0x10D ∷ 0x5000_0ABC ∷ 0x10F ∷ []
 
--- What is seen with these registers and H 80000005H, given PC, N, Z, C, V and the status.
+-- The visible state with these registers and H 80000005H, given PC, N, Z, C, V and the status.
 abbrev pub seen : ℕ → ℕ → ℕ → ℕ → ℕ → ℕ → Visible
 seen pc n z c v status = record { pc = pc; regs = registers; h = 0x8000_0005; n = n; z = z; c = c; v = v; status = status }
 
--- The reference machine with what is seen, n words of memory that are all 9, and a history; no word in flight, the counts zero.
+-- The reference machine with a visible state, n words of memory that are all 9, and a history; no word in flight, all counts zero.
 abbrev pub machine : Visible → ℕ → List Event → Reference
 machine v n h =
     record {
@@ -94,17 +94,17 @@ machine v n h =
       writebacks = 0;
     }
 
--- The clock history of the program p from q with these line bytes and input words; then with 7 as every input word.
+-- The clock history of the program p from q with these line bytes and input words; `ran` has 7 as every input word.
 unfoldable pub ranWith : List ℕ → Reference → List ℕ → List ℕ → List (After Reference Answer)
-ranWith p q lines inputs = clocks (referenceClock paperGeometry p) q (pinsOf lines inputs)
+ranWith p q lineBytes inputs = clocks (referenceClock paperGeometry p) q (pinsOf lineBytes inputs)
 
 unfoldable pub ran : List ℕ → Reference → List ℕ → List (After Reference Answer)
-ran p q lines = ranWith p q lines (replicate (length lines) 7)
+ran p q lineBytes = ranWith p q lineBytes (replicate (length lineBytes) 7)
 
 unfoldable pub stateAfter : List ℕ → Reference → List ℕ → Reference
-stateAfter p q lines = endOf q (ran p q lines)
+stateAfter p q lineBytes = endOf q (ran p q lineBytes)
 
--- n clocks with no line high
+-- n line bytes with no bit set
 abbrev pub quiet : ℕ → List ℕ
 quiet n = replicate n 0
 
@@ -120,27 +120,27 @@ loadOf block = access (record { block = block; store = false })
 abbrev pub storeOf : ℕ → Event
 storeOf block = access (record { block = block; store = true })
 
--- 256 words, which are blocks 0–31, the cache off, or on with a history; R1 is FFC0H, where device 0 is
+-- 256 words of memory, which are blocks 0–31, the cache off, or on with a history; R1 is FFC0H, the address of device 0
 abbrev pub cacheOff : Reference
 cacheOff = machine (holding 0xFFC0 0 0) 256 []
 
 abbrev pub cacheWith : List Event → Reference
 cacheWith h = machine (holding 0xFFC0 0 8) 256 h
 
--- the places, from k on, at which the second list is not as the first, each with what it has there; and alone the place at which
--- one list is over before the other
+-- the indices, counted from k, at which the second list differs from the first, each followed by its value there; if the lengths differ,
+-- the index at which the shorter list ends
 unfoldable pub changedFrom : ℕ → List ℕ → List ℕ → List ℕ
 changedFrom k [] [] = []
 changedFrom k [] (y ∷ ys) = k ∷ []
 changedFrom k (x ∷ xs) [] = k ∷ []
 changedFrom k (x ∷ xs) (y ∷ ys) = cond (eqb x y) (changedFrom (suc k) xs ys) (k ∷ y ∷ changedFrom (suc k) xs ys)
 
--- PC; each register that is not as before, by its place (0–7 in bank 0, 8–15 in bank 1) and what it is; H, N, Z, C, V, status
+-- PC; each changed register by its index (0–7 in bank 0, 8–15 in bank 1) and its value; H, N, Z, C, V, status
 unfoldable pub shown : Visible → Visible → List ℕ
 shown before v =
     v .pc ∷ (changedFrom 0 (before .regs) (v .regs) ++ (v .h ∷ v .n ∷ v .z ∷ v .c ∷ v .v ∷ v .status ∷ []))
 
--- what a state holds but for its clocks and held clocks, the history by its length
+-- a state without its clocks and held clocks; of the history only its length
 unfoldable pub restOf : Reference → List ℕ
 restOf q =
     length (q .history)

@@ -1,24 +1,23 @@
--- A machine as its clocks show it, and its clock history: one clock for each pair of pins.
+-- The clock history of a machine: one clock for each pair of line byte and input word.
 -- Paper: "A run carries out one clock per line byte and reports the clocks used and instructions finished."
--- Assumes nothing.
 --   clocks step x is   the clock history from the state x       endOf x ts   its last state       outsOf ts   its answers
---   finishedIn as      how many words these clocks carried out
+--   finishedIn as      how many words these clocks executed
 use Prim.Native.Nat.{ℕ, _+_}
 use mathlib.Core.List.{List, [], _∷_}
 use Rattle.trm_reference.specs.Access.{Answer}
 
 -- "Each clock brings a line byte .. and an input word"
 pub record Pins : Type 0 where
-  pub line : ℕ
+  pub lineByte : ℕ
   pub input : ℕ
 
 -- the line bytes with their input words
 unfoldable pub pinsOf : List ℕ → List ℕ → List Pins
 pinsOf [] is = []
 pinsOf (l ∷ ls) [] = []
-pinsOf (l ∷ ls) (i ∷ is) = record { line = l; input = i } ∷ pinsOf ls is
+pinsOf (l ∷ ls) (i ∷ is) = record { lineByte = l; input = i } ∷ pinsOf ls is
 
--- what one clock leaves and answers
+-- the state after one clock, and its answer
 pub record After (S O : Type 0) : Type 0 where
   pub state : S
   pub out : O

@@ -1,6 +1,6 @@
--- What a programmer sees but for data memory, and how registers, flags, status bits and program words are read.
+-- What a programmer sees except data memory, and how registers, status bits and program words are read.
 -- Paper: "Twelve-bit PC; two banks of eight 32-bit registers; H (32 bits); flags N Z C V; four status bits: 0 enables interrupt 0,
--- 1 enables interrupt 1, 2 is the mode and selects the bank, 3 is cache on." Assumes nothing.
+-- 1 enables interrupt 1, 2 is the mode and selects the bank, 3 is cache on."
 --   register v r   R.r of the bank in use      withRegister v r x   the sixteen registers with R.r := x
 --   wordAt p pc    the program word at pc       resetVisible         all zero
 use Prim.Native.Nat.{ℕ, _+_, _*_, _%_}
@@ -22,7 +22,7 @@ pub record Visible : Type 0 where
   pub v : ℕ
   pub status : ℕ
 
--- "2 is the mode and selects the bank": where R.r stands, r being 0–7
+-- "2 is the mode and selects the bank": the index of R.r, r from 0 to 7
 unfoldable pub registerIndex : ℕ → ℕ → ℕ
 registerIndex status r = bit 2 status * 8 + r
 

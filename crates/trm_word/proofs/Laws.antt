@@ -1,4 +1,3 @@
--- The laws, one theme to a file.
+-- Laws about words, one topic per file.
 -- `Length`: a store's length as a power of two.
--- Assumes nothing.
 pub mod Length

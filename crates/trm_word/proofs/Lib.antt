@@ -1,5 +1,4 @@
--- The laws behind the proofs of this crate, and the value of its claims.
+-- The laws that the proofs of this crate use, and the proof of its claims.
 -- Nothing here need be read to know what is claimed.
--- Assumes nothing.
 pub mod Laws
 pub mod Theorems

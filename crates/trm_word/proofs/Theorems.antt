@@ -1,6 +1,5 @@
--- The value of the claims on words: every field of `Claims` is proved.
--- The addresses compute; a device goes by the test of `placeOf`; the conditions by their eight pairs.
--- Assumes nothing.
+-- Proves every field of `Claims`.
+-- The addresses compute; `devices-fit` follows from the test in `placeOf`, `conditions-paired` from its eight cases.
 use mathlib.Core.Path.{_≡_, refl}
 use mathlib.Core.Bool.{Bool, true, false, cond}
 use Prim.Native.Nat.{ℕ, zero, suc, _-_, _%_, _<_}

@@ -1,6 +1,6 @@
 -- The address of LD and ST, what it names, and the lengths that a store may have.
 -- Paper: "address = (base + bits 10–3) mod 65,536. The base is R.s, but zero for s = 7. FFC0H–FFFFH are devices 0–63; any
--- other address is taken mod the store's length"; row 4, "length no power of two in 64–32,768". Assumes nothing.
+-- other address is taken mod the store's length"; row 4, "length no power of two in 64–32,768".
 --   effectiveAddress base offset   the address       placeOf address length   the device, or the word of the store
 use Prim.Native.Nat.{ℕ, _+_, _-_, _%_, _^_}
 use mathlib.Core.Bool.{Bool, false, cond, _||_}
@@ -16,7 +16,7 @@ baseOf s register = cond (eqb s 7) 0 register
 abbrev pub effectiveAddress : ℕ → ℕ → ℕ
 effectiveAddress base offset = (base + offset) % 65536
 
--- an address is below 65,536 and from FFC0H on a device, so the device is 0–63; the length is not 0
+-- an address is below 65,536, so a device is 0–63; the length is not 0
 abbrev pub placeOf : ℕ → ℕ → Place
 placeOf address length = cond (ltb address 0xFFC0) (Memory (address % length)) (Device (address - 0xFFC0))
 

@@ -1,7 +1,7 @@
 -- The sixteen base charges by operation: the clocks of the cheapest form.
--- Paper: the table of clocks; "A constant table of sixteen base charges by operation". The code's own is `BASE_CHARGES`, equal (D-23).
--- What is added: 1 for 14 taken and for 11 with bit 10 set; 10 for each dirty line that an emptying writes back; 4 for LD and
--- ST to memory with the cache off; a miss is 12 or 22 in place of the base. Assumes nothing.
+-- Paper: the table of clocks; "A constant table of sixteen base charges by operation". `BASE_CHARGES` in the code is equal (D-23).
+-- Added to the base: 1 for a taken branch (14) and for a jump (11 with bit 10 set); 10 for each dirty line that is written back when the
+-- cache is turned off; 4 for LD and ST to memory with the cache off. A miss takes 12 or 22 in place of the base.
 use Prim.Native.Nat.{ℕ}
 use mathlib.Core.List.{List, [], _∷_}
 use lib.ListN.{getD}

@@ -1,6 +1,5 @@
--- What is claimed of words beside the contracts: one statement to a field.
--- Paper: "Bench cases" on addresses; conditions 0–15, "its opposite". The value is in proofs/Theorems.antt.
--- Assumes nothing.
+-- Claims about words beyond the contracts: one statement per field.
+-- Paper: "Bench cases" on addresses; conditions 0–15, "its opposite". Proved in proofs/Theorems.antt.
 use Prim.Native.Nat.{ℕ, _+_, _*_, _<_}
 use mathlib.Core.Path.{_≡_}
 use mathlib.Core.Bool.{not}

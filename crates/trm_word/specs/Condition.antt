@@ -1,7 +1,7 @@
 -- The sixteen conditions of operation 14.
 -- Paper: "Conditions 0–15: Z; not Z; C; not C; N; not N; V; not V; C and not Z; its opposite; N=V; N≠V; N=V and not Z;
--- its opposite; always; never." Assumes nothing.
---   conditionHolds k n z c v   whether condition k holds of the flags, which are numbers
+-- its opposite; always; never."
+--   conditionHolds k n z c v   whether condition k holds; the flags are numbers
 use Prim.Native.Nat.{ℕ}
 use mathlib.Core.Bool.{Bool, true, false, not, _&&_, Bool·beq}
 use mathlib.Core.List.{List, [], _∷_}

@@ -1,6 +1,5 @@
 -- The fields of an 18-bit word, by their bits.
 -- Paper: "Operation = bits 17–14, d = bits 13–11, s = bits 2–0", and the fields that each operation names.
--- Assumes nothing.
 --   bits hi lo w   bits hi to lo of w as a number       lowBits n w   the low n bits, n − 1 to 0       bit i w   bit i
 use Prim.Native.Nat.{ℕ, suc, _-_, _/_, _%_, _^_}
 use mathlib.Core.Bool.{Bool, _&&_}
@@ -47,7 +46,7 @@ memoryOffset w = bits 10 3 w
 abbrev pub condition : ℕ → ℕ
 condition w = bits 13 10 w
 
--- 14: "signed bits 9–0", here the ten bits as they stand; their sign counts where the machine adds them
+-- 14: "signed bits 9–0", here the ten bits unsigned; the machine extends their sign when it adds them
 abbrev pub branchOffset : ℕ → ℕ
 branchOffset w = lowBits 10 w
 

@@ -1,6 +1,5 @@
 -- The definitions of words, in reading order.
 -- Paper: "What a programmer sees", fields, conditions, addresses; "Clock by clock", the base charges.
--- Assumes nothing.
 pub mod Fields
 pub mod Condition
 pub mod Address

@@ -1,4 +1,4 @@
 // The 18-bit words of the TRM, as the machine reads them: conditions, addresses, base charges.
 // Paper: "What a programmer sees", conditions and addresses; "Clock by clock", the table of clocks.
-// Every function is shared among the crates above and stands in `inner`; the fields themselves are in specs/Fields.antt.
+// Every function is shared with other crates and is in `inner`; the fields of a word are defined in specs/Fields.antt.
 pub mod inner;

@@ -1,7 +1,7 @@
 // Lists the image of its standard input: `trmlist < IMAGE`.
 // Paper: "The program `trmlist` reads an image from standard input with a store of 2,048 words, checks it whole, and runs it".
-// One byte more than an image may have is read, so that a longer one is seen to be too long. A program can set no exit status: a failed
-// read or write is said on standard error, and a failed read prints no listing.
+// It reads up to one byte more than an image may have, so that a longer image is refused as too long. A program cannot set an exit
+// status: a failed read or write is reported on standard error, and a failed read prints no listing.
 
 // Whether the first n bytes are the whole input or more than an image may have: a read that fails is not the end of the input.
 fn is_read(n: usize) -> bool {
@@ -19,7 +19,7 @@ fn main() {
         io::write_all(2, b"trmlist: standard input could not be read\n");
         return;
     }
-    if !trm_output::write_listing(1, &bytes[..n]) {
+    if !trm_list_output::write_listing(1, &bytes[..n]) {
         io::write_all(2, b"trmlist: the listing could not be written\n");
     }
 }

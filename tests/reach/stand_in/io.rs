@@ -1,6 +1,6 @@
 // A stand-in for the kit's io: what the programs of crates/ use of it.
-// Paper: none of it.
-// A write that fails answers false; a read that fails ends the input.
+// Paper: nothing.
+// A failed write returns false; a failed read ends the input.
 use std::fs::File;
 use std::io::{Read, Write};
 use std::mem::ManuallyDrop;

@@ -1,6 +1,6 @@
 // A stand-in for the kit's libc: what the programs of crates/ use of it.
-// Paper: none of it.
-// The C library is linked in any case; close and read are its own.
+// Paper: nothing.
+// The C library is linked in any case; `close` and `read` are its functions.
 mod c {
     extern "C" {
         pub fn close(fd: i32) -> i32;

@@ -1,5 +1,5 @@
 // A stand-in for the kit's os: what the programs of crates/ use of it.
-// Paper: none of it.
+// Paper: nothing.
 // An argument that is missing or too long has the length 0; a file that cannot be opened has the descriptor -1.
 use std::ffi::OsStr;
 use std::fs::File;

@@ -1,6 +1,6 @@
-// The counters: each place that is met for the first time is added to the file that REACH_FILE names.
-// Paper: none of it; this is about which code the tests run.
-// Beside them what translated code needs: the wrapping sums of the kit's std, and C's pointer and length as a slice.
+// The counters: each place reached for the first time is added to the file that REACH_FILE names.
+// Paper: nothing; this is about which code the tests run.
+// Also what translated code needs: the wrapping sums of the kit's std, and a slice from C's pointer and length.
 use std::fs::{File, OpenOptions};
 use std::io::Write;
 use std::sync::atomic::{AtomicBool, Ordering};
@@ -30,7 +30,7 @@ pub fn hit(place: usize) {
     }
 }
 
-/// A condition, and the place that it leads to.
+/// A condition, and the place for each of its outcomes.
 #[inline]
 pub fn either(condition: bool, yes: usize, no: usize) -> bool {
     hit(if condition { yes } else { no });

@@ -1,6 +1,5 @@
--- A payload as a part of its image: number, start and length tell it.
--- Idea: by whether it is refused; of a list cut to n, its own length cuts the same.
--- Assumes nothing.
+-- A payload given by number, start and length is a part of its image.
+-- Idea: by cases of whether it is refused; cutting a list to n and to the length of that cut are the same.
 use Prim.Native.Nat.{ℕ, zero, suc, _+_}
 use mathlib.Core.Path.{_≡_, refl, sym, ap, _∙_}
 use mathlib.Core.Bool.{true, false}

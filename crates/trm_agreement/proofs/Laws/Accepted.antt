@@ -1,6 +1,5 @@
--- A related record is accepted by row 5.
+-- A record that is related to a state of the reference machine passes row 5.
 -- Idea: the facts of the relation are those of `Valid`.
--- Assumes nothing.
 use Prim.Native.Nat.{ℕ, _^_, _<_}
 use mathlib.Core.Path.{_≡_, refl, ap}
 use mathlib.Core.Bool.{Bool, true, false}

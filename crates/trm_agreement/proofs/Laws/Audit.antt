@@ -1,7 +1,6 @@
--- The log of the reference machine is in order: every entry is audited, the book is balanced after it, and the devices are as it says.
--- Idea: one clock keeps the book; then the list of clocks, and the list of calls; of an audited log the rest follows.
--- Assumes nothing.
---   plain-machine   the plain machine over any clocks        of-log   any log that is the reference machine's
+-- The log of the reference machine passes the audit: every entry is audited, the book is balanced after it, and its devices are listed.
+-- Idea: one clock keeps the book; then the list of clocks, and the list of calls; the rest follows from an audited log.
+--   plain-machine   the plain machine over any clocks        of-log   any log that equals the reference machine's
 use Prim.Native.Nat.{ℕ, suc, _<_}
 use mathlib.Core.Path.{_≡_, refl, sym, ap, ap₂, _∙_, subst}
 use mathlib.Core.Logic.{_≢_}
@@ -19,7 +18,7 @@ use Rattle.trm_reference.specs.Trace.{Pins, After, clocks, endOf, outsOf}
 use Rattle.trm_reference.specs.Reference.{Reference, referenceClock, referenceReset}
 use Rattle.trm_core.proofs.Laws.Fit.{fit}
 use Rattle.trm_agreement.specs.Log.{started, clocked, ended, clocksOf, entries, calls, logOf, answersIn, lastSeen}
-use Rattle.trm_agreement.specs.Calls.{Call, feed, answer, Seen, Line, referenceSeen, referenceCode, referenceEngine}
+use Rattle.trm_agreement.specs.Calls.{Call, feed, answer, Seen, LogEntry, referenceSeen, referenceCode, referenceEngine}
 use Rattle.trm_agreement.specs.Book.{Did, waited, acknowledged, worked, finished, isFinish, Book, opened, wordOf, sizeOf}
 use Rattle.trm_agreement.specs.Book.{accessing, interrupting, due, went, turned, closed}
 use Rattle.trm_agreement.specs.Audit.{Balanced, Does, Audited, bookAt, accessesIn, deviceAnswers}
@@ -36,16 +35,16 @@ module _ (G : Geometry) (p : List ℕ) where
   unfolding closed
   closes b w e h = rw e h
 
-  -- every part that begins an audited log leaves the book balanced
-  prefixes : (b : Book) (es rest : List Line) → Balanced G p b → Audited G p b (es ++ rest) → Balanced G p (bookAt G p b es)
+  -- every prefix of an audited log leaves the book balanced
+  prefixes : (b : Book) (es rest : List LogEntry) → Balanced G p b → Audited G p b (es ++ rest) → Balanced G p (bookAt G p b es)
   unfolding Audited bookAt
   prefixes b [] rest h a = h
   prefixes b (started w ∷ es) rest h a = absurd a
   prefixes b (clocked i w o ∷ es) rest h a = prefixes (turned G p b w (went G p b i o)) es rest (a .1) (a .2)
   prefixes b (ended w c ∷ es) rest h a = prefixes (closed b w) es rest (closes b w (a .0) h) (a .1)
 
-  -- an audited log shows each device access of its instructions, once each, in their order
-  audited-devices : (b : Book) (es : List Line) → Audited G p b es → deviceAnswers (answersIn es) ≡ accessesIn G p b es
+  -- an audited log shows every device access of its instructions, once each, in order
+  audited-devices : (b : Book) (es : List LogEntry) → Audited G p b es → deviceAnswers (answersIn es) ≡ accessesIn G p b es
   unfolding Audited Does isFinish answersIn deviceAnswers accessesIn
   audited-devices b [] h = refl
   audited-devices b (started w ∷ es) h = absurd h
@@ -67,7 +66,7 @@ module _ (G : Geometry) (p : List ℕ) where
           (one-access (wordOf p b) (b .seen .visible) (sizeOf b) (i .input) (rest (finished c)))
 
 module _ (G : Geometry) (p : List ℕ) where
-  -- the book after a clock is that of the state after it
+  -- the book after a clock is the book of the state after it
   turned-is : (q : Reference) (sp hd ch : ℕ) (i : Pins) (k : Kept G p q sp hd ch)
       → let st = clock-step G p q sp hd ch i k in
       turned G p (bookOf q sp hd ch) (seenOf (referenceClock G p q i .state)) (went G p (bookOf q sp hd ch) i (referenceClock G p q i .out))
@@ -75,7 +74,7 @@ module _ (G : Geometry) (p : List ℕ) where
   turned-is q sp hd ch i k = let st = clock-step G p q sp hd ch i k in
       ap (turned G p (bookOf q sp hd ch) (seenOf (referenceClock G p q i .state))) (st .is) ∙ st .next
 
-  -- the book after some clocks, and what ties it to the state then
+  -- the book after some clocks, and how it relates to the state then
   record Reached (q : Reference) (b : Book) : Type 0 where
     sp : ℕ
     hd : ℕ
@@ -96,7 +95,7 @@ module _ (G : Geometry) (p : List ℕ) where
 
 module _ (G : Geometry) (pos : 0 < burst G) (p : List ℕ) where
   -- the clocks of a call, and the rest of the log after them
-  audited-clocks : (is : List Pins) (es : List Line) (q : Reference) (sp hd ch : ℕ) → Kept G p q sp hd ch
+  audited-clocks : (is : List Pins) (es : List LogEntry) (q : Reference) (sp hd ch : ℕ) → Kept G p q sp hd ch
       → ((sp′ hd′ ch′ : ℕ) → Kept G p (endOf q (clocks (referenceClock G p) q is)) sp′ hd′ ch′
       → Audited G p (bookOf (endOf q (clocks (referenceClock G p) q is)) sp′ hd′ ch′) es)
       → Audited G p (bookOf q sp hd ch)
@@ -158,8 +157,8 @@ module _ (G : Geometry) (pos : 0 < burst G) (p s : List ℕ) where
   clocks-audited is = rw (opens-at s) (rw (append-nil _) at (audited-clocks G pos p is [] (referenceReset s) 0 0 0 (reset-kept G p s)
       (λ sp hd ch k. tt)))
 
-  -- a log that is that of the reference machine, and what is seen last in it
-  log-holds : (cs : List Call) (first : Seen) (es : List Line) (last : Seen)
+  -- a log that equals the reference machine's, and what is seen last in it
+  log-holds : (cs : List Call) (first : Seen) (es : List LogEntry) (last : Seen)
       → started first ∷ es ≡ logOf feed answer (referenceEngine G p) (referenceReset s) cs → lastSeen first es ≡ last
       → Holds G p s cs first es last
   unfolding logOf lastSeen referenceEngine
@@ -181,11 +180,11 @@ module _ (G : Geometry) (pos : 0 < burst G) (p s : List ℕ) where
       audit : Audited G p (opened first) es
       audit = rw (starts, others) (log-audited cs)
 
--- a clock that says that it finished an instruction took the charge, as its book has it
+-- a clock that reports a finished instruction took the charge, as its book has it
 finished-took : (G : Geometry) (p : List ℕ) (b : Book) (i : Pins) (w : Seen) (o : Answer) → Does p b i w o (went G p b i o)
     → o .done ≡ 1 → suc (b .spent) ≡ due G p b
 unfolding went Does
-finished-took G p b i w o = go (stalled (i .line)) (interrupting b i)
+finished-took G p b i w o = go (stalled (i .lineByte)) (interrupting b i)
   where
     unlike : o ≡ silent 0 → o .done ≢ 1
     unlike x e = absurd (let f = ap (λ (a : Answer). a .done) x in omega arith)
@@ -218,12 +217,12 @@ plain-machine G p s is = record {
     at-end : plainBook G p s is ≡ bookOf q (r .sp) (r .hd) (r .ch)
     at-end = ap (λ b. bookAt G p b (plainEntries G p s is)) (opens-at s) ∙ r .is
 
--- a burst takes a clock
+-- a burst takes at least a clock
 burst-pos : (G : Geometry) → geometryOk G ≡ true → 0 < burst G
 burst-pos G ok = fit G 64 ok (unfold storeLengthOk in refl) .tpos
 
--- a log that is that of the reference machine, for every geometry of `geometryOk`
-pub of-log : (G : Geometry) → geometryOk G ≡ true → (p s : List ℕ) (cs : List Call) (first : Seen) (es : List Line) (last : Seen)
+-- a log that equals the reference machine's, for every geometry of `geometryOk`
+pub of-log : (G : Geometry) → geometryOk G ≡ true → (p s : List ℕ) (cs : List Call) (first : Seen) (es : List LogEntry) (last : Seen)
     → started first ∷ es ≡ logOf feed answer (referenceEngine G p) (referenceReset s) cs → lastSeen first es ≡ last
     → Holds G p s cs first es last
 of-log G ok p s cs first es last whole end = log-holds G (burst-pos G ok) p s cs first es last whole end

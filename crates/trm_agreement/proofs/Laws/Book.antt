@@ -1,8 +1,7 @@
--- One clock of the reference machine keeps the book: what it does is what the book says, and the book after it is balanced.
--- Idea: the book is the machine's visible part, memory, history and counts with the clocks spent; what is spent and what is left are
--- the charge. One law for each thing a clock can be spent on.
--- Assumes nothing.
---   bookOf q sp hd ch   the book of a state        Kept   what ties it to the state        clock-step   one clock
+-- One clock of the reference machine keeps the book: it does what the book says, and the book after it is balanced.
+-- Idea: the book is the machine's visible part, memory, history and counts with the clocks spent; the clocks spent and left are the charge.
+-- One law for each thing a clock can be spent on.
+--   bookOf q sp hd ch   the book of a state        Kept   how it relates to the state        clock-step   one clock
 use Prim.Native.Nat.{ℕ, suc, _+_, _-_, _≤_, _<_}
 use mathlib.Core.Path.{_≡_, refl, sym, ap, ap₂, _∙_}
 use mathlib.Core.Logic.{_≢_}
@@ -65,7 +64,7 @@ module _ (G : Geometry) (p : List ℕ) where
   abbrev tests : (q : Reference) → Is (kindFor q) (wordFor q) (q .visible) (length (q .memory))
   tests q = kind-is (wordFor q) (q .visible) (length (q .memory))
 
-  -- the charge by the kind
+  -- the charge by kind
   charge-is : (q : Reference) → charge G (wordFor q) q
       ≡ chargeOfKind G (kindFor q) (isStore (wordFor q)) (missesFor q) (evictsFor q) (dirtyLines G (q .history))
   unfolding charge
@@ -82,13 +81,13 @@ module _ (G : Geometry) (p : List ℕ) where
 
     -- the interrupt rule
     interrupting-is : (i : Pins) → interrupting (bookOf q sp hd ch) i
-        ≡ eqb sp 0 && not (eqb (interruptChosen (q .visible .status) (i .line)) 0)
+        ≡ eqb sp 0 && not (eqb (interruptChosen (q .visible .status) (i .lineByte)) 0)
     unfolding interrupting
-    interrupting-is i = rw (taken-in-bits (q .visible .status) (i .line))
+    interrupting-is i = rw (taken-in-bits (q .visible .status) (i .lineByte))
 
-    interrupt-at : (i : Pins) → eqb (interruptChosen (q .visible .status) (i .line)) 0 ≡ false
-        → interruptChosen (q .visible .status) (i .line) ≡ interruptTo (q .visible .status) (i .line)
-    interrupt-at i e = goes-to (q .visible .status) (i .line) (sym (taken-in-bits (q .visible .status) (i .line)) ∙ rw e)
+    interrupt-at : (i : Pins) → eqb (interruptChosen (q .visible .status) (i .lineByte)) 0 ≡ false
+        → interruptChosen (q .visible .status) (i .lineByte) ≡ interruptTo (q .visible .status) (i .lineByte)
+    interrupt-at i e = goes-to (q .visible .status) (i .lineByte) (sym (taken-in-bits (q .visible .status) (i .lineByte)) ∙ rw e)
 
     refill-is : refillOver G p (bookOf q sp hd ch) ≡ fills (isCached (kindFor q) && missesFor q) (charge G (wordFor q) q) sp
     unfolding refillOver due charge missing misses evicting evicts
@@ -123,7 +122,7 @@ module _ (G : Geometry) (p : List ℕ) where
       go true e n = absurd (n (k .idle (eqb-true (q .left) 0 e)))
       go false e n = let a = eqb-false (q .left) 0 e in let b = k .sum a in omega arith
 
-  -- with nothing spent no burst is over
+  -- with no clock spent no burst is over
   none-filled : (q : Reference) → fills (isCached (kindFor q) && missesFor q) (charge G (wordFor q) q) 0 ≡ 0
   none-filled q = rw (charge-is q)
       (idle-fills G (kindFor q) (isStore (wordFor q)) (missesFor q) (evictsFor q) (dirtyLines G (q .history)))
@@ -145,7 +144,7 @@ module _ (G : Geometry) (p : List ℕ) where
     wide = l;
   }
 
-  -- a clock by what it went on: lawful, and the book after it is that of the state after it
+  -- a clock by what it is spent on: it is lawful, and the book after it is that of the state after it
   pub record Step (q : Reference) (sp hd ch : ℕ) (i : Pins) (u : After Reference Answer) : Type 0 where
     pub d : Did
     pub is : went G p (bookOf q sp hd ch) i (u .out) ≡ d
@@ -157,7 +156,7 @@ module _ (G : Geometry) (p : List ℕ) where
     pub kept : Kept (u .state) sp′ hd′ ch′
 
   module _ (q : Reference) (sp hd ch : ℕ) (i : Pins) (k : Kept q sp hd ch) where
-    held-step : stalled (i .line) ≡ true → Step q sp hd ch i (referenceHeld q)
+    held-step : stalled (i .lineByte) ≡ true → Step q sp hd ch i (referenceHeld q)
     unfolding referenceHeld went Does turned charge misses evicts
     held-step e = record {
       d = waited;
@@ -179,8 +178,8 @@ module _ (G : Geometry) (p : List ℕ) where
       };
     }
 
-    interrupt-step : stalled (i .line) ≡ false → q .left ≡ 0 → eqb (interruptChosen (q .visible .status) (i .line)) 0 ≡ false
-        → Step q sp hd ch i (referenceInterrupt (interruptChosen (q .visible .status) (i .line)) q)
+    interrupt-step : stalled (i .lineByte) ≡ false → q .left ≡ 0 → eqb (interruptChosen (q .visible .status) (i .lineByte)) 0 ≡ false
+        → Step q sp hd ch i (referenceInterrupt (interruptChosen (q .visible .status) (i .lineByte)) q)
     unfolding referenceInterrupt went Does turned
     interrupt-step e z n = record {
       d = acknowledged;
@@ -190,16 +189,16 @@ module _ (G : Geometry) (p : List ℕ) where
       hd′ = hd;
       ch′ = 1 + ch;
       next = refl;
-      kept = idle-kept (referenceInterrupt (interruptChosen (q .visible .status) (i .line)) q .state) hd (1 + ch) refl
+      kept = idle-kept (referenceInterrupt (interruptChosen (q .visible .status) (i .lineByte)) q .state) hd (1 + ch) refl
           (let a = k .clocks in let b = k .idle z in omega arith) (k .held)
           (rw (k .idle z) at (k .refills) ∙ ap (λ x. refillsIn G (q .history) + x) (none-filled q) ∙ add-zero _)
           (λ pos. rw (k .idle z) at (k .writebacks pos) ∙ ap (λ x. writebacksIn G (q .history) + x) (none-written q) ∙ add-zero _)
-          (interrupted-regs (q .visible) (interruptChosen (q .visible .status) (i .line)) ∙ k .wide);
+          (interrupted-regs (q .visible) (interruptChosen (q .visible .status) (i .lineByte)) ∙ k .wide);
     }
 
-    -- the word goes on, and n clocks are left
-    spend-step : (n : ℕ) → stalled (i .line) ≡ false
-        → eqb sp 0 && not (eqb (interruptChosen (q .visible .status) (i .line)) 0) ≡ false → n ≢ 0
+    -- the word does not end, and n clocks are left
+    spend-step : (n : ℕ) → stalled (i .lineByte) ≡ false
+        → eqb sp 0 && not (eqb (interruptChosen (q .visible .status) (i .lineByte)) 0) ≡ false → n ≢ 0
         → suc sp + n ≡ charge G (wordFor q) q → Step q sp hd ch i (spend G (wordFor q) q n)
     unfolding spend went Does turned charge misses evicts
     spend-step n e a z s = record {
@@ -225,9 +224,9 @@ module _ (G : Geometry) (p : List ℕ) where
       };
     }
 
-    -- the word is carried out
-    carry-step : stalled (i .line) ≡ false
-        → eqb sp 0 && not (eqb (interruptChosen (q .visible .status) (i .line)) 0) ≡ false
+    -- the word is executed
+    carry-step : stalled (i .lineByte) ≡ false
+        → eqb sp 0 && not (eqb (interruptChosen (q .visible .status) (i .lineByte)) 0) ≡ false
         → suc sp ≡ charge G (wordFor q) q → Step q sp hd ch i (carryOut G (wordFor q) q (i .input))
     unfolding carryOut went Does turned memoryAfter
     carry-step e a s = record {
@@ -262,9 +261,9 @@ module _ (G : Geometry) (p : List ℕ) where
           (execute-regs (wordFor q) (q .visible) _ ∙ k .wide);
     }
 
-    -- one is taken off the n that are left
-    take-step : (n : ℕ) → stalled (i .line) ≡ false
-        → eqb sp 0 && not (eqb (interruptChosen (q .visible .status) (i .line)) 0) ≡ false → n ≢ 0
+    -- one of the n clocks left is spent
+    take-step : (n : ℕ) → stalled (i .lineByte) ≡ false
+        → eqb sp 0 && not (eqb (interruptChosen (q .visible .status) (i .lineByte)) 0) ≡ false → n ≢ 0
         → sp + n ≡ charge G (wordFor q) q → Step q sp hd ch i (takeOff G (wordFor q) q n (i .input))
     unfolding takeOff
     take-step n e a z s = go (eqb (n - 1) 0) refl
@@ -276,13 +275,13 @@ module _ (G : Geometry) (p : List ℕ) where
 
     pub clock-step : Step q sp hd ch i (referenceClock G p q i)
     unfolding referenceClock referenceUnheld
-    clock-step = go (stalled (i .line)) refl (eqb (q .left) 0) refl (eqb (interruptChosen (q .visible .status) (i .line)) 0) refl
+    clock-step = go (stalled (i .lineByte)) refl (eqb (q .left) 0) refl (eqb (interruptChosen (q .visible .status) (i .lineByte)) 0) refl
       where
-        go : (h : Bool) → stalled (i .line) ≡ h → (z : Bool) → eqb (q .left) 0 ≡ z
-            → (n : Bool) → eqb (interruptChosen (q .visible .status) (i .line)) 0 ≡ n
+        go : (h : Bool) → stalled (i .lineByte) ≡ h → (z : Bool) → eqb (q .left) 0 ≡ z
+            → (n : Bool) → eqb (interruptChosen (q .visible .status) (i .lineByte)) 0 ≡ n
             → Step q sp hd ch i (cond h (referenceHeld q) (cond z
             (cond n (takeOff G (wordFor q) q (charge G (wordFor q) q) (i .input))
-            (referenceInterrupt (interruptChosen (q .visible .status) (i .line)) q))
+            (referenceInterrupt (interruptChosen (q .visible .status) (i .lineByte)) q))
             (takeOff G (wordFor q) q (q .left) (i .input))))
         go true e z f n g = held-step e
         go false e true f true g = let idle = k .idle (eqb-true (q .left) 0 f) in

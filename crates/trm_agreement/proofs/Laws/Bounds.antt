@@ -1,6 +1,5 @@
 -- Every charge is above 0 and at most the longest.
--- Idea: by the kind of the word; the dirty lines are at most all lines.
--- Assumes nothing.
+-- Idea: by cases of the kind of the word; at most all lines are dirty.
 use Prim.Native.Nat.{ℕ, _≤_, _<_}
 use mathlib.Core.Path.{refl}
 use mathlib.Core.Bool.{Bool, true, false}

@@ -1,6 +1,5 @@
--- One clock of both machines agrees, whatever is in flight and whatever the lines do.
--- Idea: by what is in flight; `Laws.Phases` of trm_core says of each phase whether the clock is the word's last and what it does else.
--- Assumes nothing.
+-- One clock of both machines agrees, whatever is in flight and whatever the line byte and input word.
+-- Idea: by cases of what is in flight; `Laws.Phases` of trm_core says for each phase whether the clock is the word's last and what it does.
 use Prim.Native.Nat.{ℕ, zero, suc, _+_, _-_, _*_, _≤_, _<_}
 use mathlib.Core.Path.{_≡_, refl, sym, ap, _∙_}
 use mathlib.Core.Logic.{_≢_}
@@ -74,11 +73,12 @@ module _ (G : Geometry) (p : List ℕ) where
         go false z = more c refl (eqb-false c 1 z)
             (λ y. absurd (let h = charge-here-pos G w (m .scalars .size) (visibleOf m) (cacheOf m) in omega arith))
 
-    interrupt-step : (line : ℕ) → Matches G (e .history) (cacheOf m)
-        → Agree G p (carried (m .scalars) (interrupted (visibleOf m) (interruptChosen (m .scalars .status) line)) (cacheOf m) s (silent 0))
-        (referenceInterrupt (interruptChosen (m .scalars .status) line) (plainOf m e))
+    interrupt-step : (lineByte : ℕ) → Matches G (e .history) (cacheOf m)
+        → Agree G p
+        (carried (m .scalars) (interrupted (visibleOf m) (interruptChosen (m .scalars .status) lineByte)) (cacheOf m) s (silent 0))
+        (referenceInterrupt (interruptChosen (m .scalars .status) lineByte) (plainOf m e))
     unfolding referenceInterrupt
-    interrupt-step line mt = record {
+    interrupt-step lineByte mt = record {
       extra = record { memory = e .memory; history = e .history; left = 0 };
       plain = refl;
       related = record {
@@ -87,10 +87,10 @@ module _ (G : Geometry) (p : List ℕ) where
           memory = cm .memory;
           view = cm .view;
           sane = cm .sane;
-          off = λ q. cm .off (sym (interrupted-on (visibleOf m) (interruptChosen (m .scalars .status) line)) ∙ q);
+          off = λ q. cm .off (sym (interrupted-on (visibleOf m) (interruptChosen (m .scalars .status) lineByte)) ∙ q);
           fit = cm .fit;
           legal = cm .legal;
-          narrow = interrupted-narrow (visibleOf m) line (cm .narrow);
+          narrow = interrupted-narrow (visibleOf m) lineByte (cm .narrow);
           counted = record {
             held = (let h = cm .counted .held in omega arith);
             refills = (let h = cm .counted .refills in omega arith);
@@ -114,18 +114,19 @@ module _ (G : Geometry) (p : List ℕ) where
         → Agree G p (unheld G w (m .scalars .size) m s pins) (referenceUnheld G w (plainOf m e) pins)
     unfolding unheld referenceUnheld
     unheld-step k pins kq (ready rq lf mt) = rw (eq-eqb (m .scalars .running .phase) 0 ph, eq-eqb (e .left) 0 lf)
-        (go (eqb (interruptChosen (m .scalars .status) (pins .line)) 0))
+        (go (eqb (interruptChosen (m .scalars .status) (pins .lineByte)) 0))
       where
         ph : m .scalars .running .phase ≡ 0
         ph = phase-of (m .scalars .running) 0 0 rq
 
         go : (t : Bool)
-            → Agree G p (cond (not t) (carried (m .scalars) (interrupted (visibleOf m) (interruptChosen (m .scalars .status) (pins .line)))
+            → Agree G p
+            (cond (not t) (carried (m .scalars) (interrupted (visibleOf m) (interruptChosen (m .scalars .status) (pins .lineByte)))
             (cacheOf m) s (silent 0)) (worked G w (m .scalars .size) m s (pins .input)))
             (cond t (takeOff G w (plainOf m e) (charge G w (plainOf m e)) (pins .input))
-            (referenceInterrupt (interruptChosen (m .scalars .status) (pins .line)) (plainOf m e)))
+            (referenceInterrupt (interruptChosen (m .scalars .status) (pins .lineByte)) (plainOf m e)))
         go true = begins k (pins .input) kq ph mt (charge G w (plainOf m e)) (sym (charge-agrees G p w m s e cm wq mt))
-        go false = interrupt-step (pins .line) mt
+        go false = interrupt-step (pins .lineByte) mt
     unheld-step k pins kq (arithmetic q rq one sum pos mt) = in-flight k pins 0 ph pos (go (eqb (m .scalars .running .count + 1) 33) refl)
       where
         ph : m .scalars .running .phase ≡ 1
@@ -226,7 +227,7 @@ module _ (G : Geometry) (p : List ℕ) where
   pub clock-step : (m : Machine) (s : List ℕ) (e : Extra) (pins : Pins) → Related G p m s e
       → Agree G p (clockOf G p (record { machine = m; store = s }) pins) (referenceClock G p (plainOf m e) pins)
   unfolding clockOf referenceClock
-  clock-step m s e pins r = rw (r .common .size) (go (stalled (pins .line)))
+  clock-step m s e pins r = rw (r .common .size) (go (stalled (pins .lineByte)))
     where
       go : (t : Bool) → Agree G p (cond t (heldClock m s) (unheld G (wordAt p (m .scalars .pc)) (m .scalars .size) m s pins))
           (cond t (referenceHeld (plainOf m e)) (referenceUnheld G (wordAt p (m .scalars .pc)) (plainOf m e) pins))

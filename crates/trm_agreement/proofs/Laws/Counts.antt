@@ -1,7 +1,6 @@
--- The refills and write-backs of a history, and those of the word in flight that are over: what a clock adds to each.
--- Idea: by the kind of the word, whose charge says how many clocks a burst is from its end; then numbers.
--- Assumes nothing.
---   idle-fills, idle-writes   none with nothing spent        spent-fills, spent-writes   one clock more is spent
+-- The refills and write-backs of a history and of the instruction in flight: what a clock adds to each.
+-- Idea: by cases of the kind of the word, whose charge says how many clocks are left of a burst; then arithmetic.
+--   idle-fills, idle-writes   none with no clock spent       spent-fills, spent-writes   one more clock is spent
 --   done-fills, done-writes   all but the last clock spent   joined-fills, joined-writes   what joins the history
 --   refill-adds, writeback-adds   what the reference machine counts in a clock
 use Prim.Native.Nat.{ℕ, suc, _+_, _-_, _*_, _/_, _%_, _<_}
@@ -24,11 +23,11 @@ use Rattle.trm_reference.specs.Reference.{Reference, misses, evicts, refillOver
 use Rattle.trm_core.proofs.Laws.Kind.{Kind, quick, second, longer, device, cached, uncached, clearing, kindOf, kind-is, isCached}
 use Rattle.trm_core.proofs.Laws.Kind.{isClearing, chargeOfKind}
 
--- the refill of a word that refills if t is set, of charge c, with this many clocks spent, is over
+-- the refill of a word of charge c that refills if t is set, with this many clocks spent, is over
 abbrev pub fills : Bool → ℕ → ℕ → ℕ
 fills t c spent = cond (t && eqb (suc spent) c) 1 0
 
--- one clock more is spent, and n are left
+-- one more clock is spent, and n are left
 pub spent-fills : (t : Bool) (c spent n : ℕ) → n ≢ 0 → suc spent + n ≡ c
     → fills t c spent + cond (t && eqb n 1) 1 0 ≡ fills t c (suc spent)
 spent-fills false c spent n z e = refl
@@ -73,7 +72,7 @@ module _ (b spent n dirty : ℕ) (pos : 0 < b) (e : suc spent + n ≡ 1 + b * di
       go true x = absurd (omega (arith, mul-le-mul-left b (leb-true dirty (spent / b) x), whole, e, z))
       go false x = let f = leb-false dirty (spent / b) x in omega arith
 
-  -- what is left of the burst under way, and whole ones
+  -- what is left of the current burst, and whole bursts
   rest-left : (n - 1) % b ≡ b - (spent % b + 1)
   rest-left =
       let more : dirty ≡ suc (dirty - suc (spent / b) + spent / b) = omega (arith, some) in

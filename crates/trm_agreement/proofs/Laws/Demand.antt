@@ -1,6 +1,5 @@
--- Demand 3 in one piece: the value of `Demand3`; the same of the definitions, for every geometry.
--- Idea: the log of what was handed back is that of the reference machine, which keeps the book; a refused call by its contract.
--- Assumes nothing.
+-- Demand 3 as a whole: the value of `Demand3`; and the same of the definitions, for every geometry.
+-- Idea: the log of the returns equals that of the reference machine, which keeps the book; a refused call by its contract.
 use Prim.Native.Nat.{ℕ}
 use mathlib.Core.Path.{_≡_, refl, sym, ap, ap₂, _∙_}
 use mathlib.Core.Logic.{_≢_}
@@ -16,11 +15,11 @@ use Rattle.trm_reference.specs.Access.{Answer}
 use Rattle.trm_reference.specs.Trace.{After}
 use Rattle.trm_core.specs.Record.{Lent, resetOf, start}
 use Rattle.trm_core.specs.Refusals.{programOk, storeOk, recordRows, clockRefusal, runRefusal}
-use Rattle.trm_engine.specs.declared.machine.Machine.{Machine}
-use Rattle.trm_engine.specs.Machine.{recordOf}
+use Rattle.trm_run_machine.specs.declared.machine.Machine.{Machine}
+use Rattle.trm_run_machine.specs.Machine.{recordOf}
 use Rattle.trm.specs.Promises.{ClockNumbered, withRecord, clocked}
-use Rattle.trm.specs.declared.answer.ClockAnswer.{ClockAnswer}
-use Rattle.trm.specs.declared.answer.LentAnswer.{LentAnswer}
+use Rattle.trm.specs.declared.exported_answers.ClockAnswer.{ClockAnswer}
+use Rattle.trm.specs.declared.exported_answers.LentAnswer.{LentAnswer}
 use Rattle.trm_agreement.specs.Log.{logOf}
 use Rattle.trm_agreement.specs.Calls.{Call, clockCall, runCall, feed, answer, recordEngine}
 use Rattle.trm_agreement.specs.Contracts.{ShippedValue, ShippedLent}
@@ -41,12 +40,12 @@ unfolding logOf recordEngine
 every-geometry G p s cs ok taken = of-log G ok p s cs _ _ _ (same-log G p s cs ok taken)
     (calls-last feed answer (recordEngine G p) (start G s) cs)
 
--- a test that fails, second
+-- a conjunction whose second test fails
 fails-second : (t : Bool) → t && false ≡ false
 fails-second true = refl
 fails-second false = refl
 
--- a record with no store that fits: row 3, or else row 4
+-- a record that no store fits: row 3, or else row 4
 no-store : (m : Machine) (s : List ℕ) → recordOf m ≡ resetOf paperGeometry [] → storeOk (recordOf m) s ≡ false
 unfolding storeOk resetOf
 no-store m s e = rw e (go (eqb (length s) 0) refl)
@@ -67,10 +66,10 @@ no-rows p m s rest e = rw (no-store m s e) (go (programOk p))
 no-code : (p : List ℕ) (m : Machine) (s : List ℕ) (c : Call) (a : Returned) → recordOf m ≡ resetOf paperGeometry [] → Facts p m s c a
     → codeReturned a ≡ cond (programOk p) 4 3
 unfolding Facts codeReturned clockRefusal runRefusal
-no-code p m s (clockCall line input) (clockReturned number left store out) e h = h .number ∙ no-rows p m s _ e
-no-code p m s (clockCall line input) (runReturned number left store used finished bytes′ words′) e h = absurd h
-no-code p m s (runCall lines inputs bytes words) (clockReturned number left store out) e h = absurd h
-no-code p m s (runCall lines inputs bytes words) (runReturned number left store used finished bytes′ words′) e h =
+no-code p m s (clockCall lineByte input) (clockReturned number left store out) e h = h .number ∙ no-rows p m s _ e
+no-code p m s (clockCall lineByte input) (runReturned number left store used finished bytes′ words′) e h = absurd h
+no-code p m s (runCall lineBytes inputs bytes words) (clockReturned number left store out) e h = absurd h
+no-code p m s (runCall lineBytes inputs bytes words) (runReturned number left store used finished bytes′ words′) e h =
     h .number ∙ no-rows p m s _ e
 
 refused-reset : (s₀ : List ℕ) (m : Machine) → Fails s₀ m → (p s : List ℕ) (c : Call) (a : Returned) → Meets p m s c a
@@ -85,10 +84,10 @@ refused-reset s₀ m f p s c a h =
     not-zero true z = absurd (omega arith)
     not-zero false z = absurd (omega arith)
 
-same-outcome : (m : Machine) (p s : List ℕ) (line input : ℕ) (r : ClockAnswer) (s₁ : List ℕ) (m₂ : Machine) (r₂ : LentAnswer)
-    (s₂ : List ℕ) → ShippedValue m p s line input r s₁ → ShippedLent m p s line input m₂ r₂ s₂ → (r ≡ withRecord m₂ r₂) × (s₁ ≡ s₂)
+same-outcome : (m : Machine) (p s : List ℕ) (lineByte input : ℕ) (r : ClockAnswer) (s₁ : List ℕ) (m₂ : Machine) (r₂ : LentAnswer)
+    (s₂ : List ℕ) → ShippedValue m p s lineByte input r s₁ → ShippedLent m p s lineByte input m₂ r₂ s₂ → (r ≡ withRecord m₂ r₂) × (s₁ ≡ s₂)
 unfolding back
-same-outcome m p s line input r s₁ m₂ r₂ s₂ h g = (
+same-outcome m p s lineByte input r s₁ m₂ r₂ s₂ h g = (
   ap₂ (λ (n : ℕ) (u : After Lent Answer). record {
     machine = back (u .state .machine);
     number = n;
@@ -99,19 +98,19 @@ same-outcome m p s line input r s₁ m₂ r₂ s₂ h g = (
   ap (λ (u : After Lent Answer). u .state .store) both,
 )
   where
-    x : ClockNumbered m p s line input r s₁
-    x = value-says m p s line input r s₁ h
+    x : ClockNumbered m p s lineByte input r s₁
+    x = value-says m p s lineByte input r s₁ h
 
-    y : ClockNumbered m p s line input (withRecord m₂ r₂) s₂
-    y = lent-says m p s line input m₂ r₂ s₂ g
+    y : ClockNumbered m p s lineByte input (withRecord m₂ r₂) s₂
+    y = lent-says m p s lineByte input m₂ r₂ s₂ g
 
     both : clocked r s₁ ≡ clocked (withRecord m₂ r₂) s₂
     both = x .outcome ∙ sym (y .outcome)
 
-lent-too : (m : Machine) (p s : List ℕ) (line input : ℕ) (r : ClockAnswer) (s′ : List ℕ) → ShippedValue m p s line input r s′
-    → ShippedLent m p s line input (r .machine) (withoutRecord r) s′
+lent-too : (m : Machine) (p s : List ℕ) (lineByte input : ℕ) (r : ClockAnswer) (s′ : List ℕ) → ShippedValue m p s lineByte input r s′
+    → ShippedLent m p s lineByte input (r .machine) (withoutRecord r) s′
 unfolding holding
-lent-too m p s line input r s′ h = let g = value-says m p s line input r s′ h in record {
+lent-too m p s lineByte input r s′ h = let g = value-says m p s lineByte input r s′ h in record {
   lifetimes = ([], ([], ([], tt)));
   machine = holding m;
   machine′ = holding (r .machine);

@@ -1,6 +1,5 @@
--- What the answer of a word that is carried out shows of its device, and the devices of any clocks of the plain machine.
--- Idea: by cases of the word; R.d is among the sixteen registers; a clock that carries nothing out answers nothing.
--- Assumes nothing.
+-- What the answer of an executed word shows of its device, and the device accesses of any clocks of the plain machine.
+-- Idea: by cases of the word; R.d is one of the sixteen registers; a clock that executes nothing answers nothing.
 use Prim.Native.Nat.{ℕ, _+_, _*_, _/_, _^_, _≤_, _<_}
 use mathlib.Core.Path.{_≡_, refl, sym, ap, _∙_}
 use mathlib.Core.Bool.{Bool, true, false, cond, not, _&&_}

@@ -1,6 +1,5 @@
--- What the calls hand back has the log of the definitions, and so of the reference machine; prefixes of runs; refused calls.
--- Idea: the contract of a call gives its clocks, what it returns and what it leaves; by induction the whole log; then `same-log`.
--- Assumes nothing.
+-- The returns of the calls have the log of the definitions, and so that of the reference machine; prefixes of runs; refused calls.
+-- Idea: the contract of a call gives its clocks, what it returns and what it leaves; the whole log by induction; then `same-log`.
 --   exchange-holds    run-prefix    refused-keeps
 use Prim.Native.Nat.{ℕ, _≤_}
 use mathlib.Core.Path.{_≡_, refl, sym, ap, ap₂, _∙_}
@@ -19,10 +18,10 @@ use Rattle.trm_core.specs.Record.{Lent}
 use Rattle.trm_core.specs.Clock.{clockOf}
 use Rattle.trm_core.specs.Refusals.{clockRefusal, runRefusal}
 use Rattle.trm_core.specs.Run.{bytesOf, wordsOf, Ran, historyOf, runOf}
-use Rattle.trm_engine.specs.declared.machine.Machine.{Machine}
-use Rattle.trm_engine.specs.Machine.{recordOf, lent}
+use Rattle.trm_run_machine.specs.declared.machine.Machine.{Machine}
+use Rattle.trm_run_machine.specs.Machine.{recordOf, lent}
 use Rattle.trm_calls.specs.Promises.{pins, clockGives, runGives}
-use Rattle.trm_plan.proofs.Laws.Facts.{paper-ok}
+use Rattle.trm_clock_laws.proofs.Laws.Facts.{paper-ok}
 use Rattle.trm_agreement.specs.Log.{started, clocked, ended, clocksOf, entries, calls, logOf, answersIn, lastSeen}
 use Rattle.trm_agreement.specs.Calls.{Call, clockCall, runCall, feed, answer, Ended, runEnds, recordSeen, recordCode, recordEngine}
 use Rattle.trm_agreement.specs.Exchange.{Starts, Returned, clockReturned, runReturned, codeReturned, machineLeft, storeLeft, asGiven}
@@ -44,57 +43,57 @@ module _ (p : List ℕ) where
   codeIn : Machine → List ℕ → Call → ℕ
   codeIn m s c = recordCode paperGeometry p (lent m s) c
 
-  -- what a call handed back is what the definitions give
+  -- what a call returned is what the definitions give
   record Step (m : Machine) (s : List ℕ) (c : Call) (a : Returned) : Type 0 where
     show : shown paperGeometry p m s c a ≡ entries feed answer (recordEngine paperGeometry p) (clocksIn m s c) (feed c)
     reports : endedBy a ≡ answer (codeIn m s c) c (outsOf (clocksIn m s c))
     left : lent (machineLeft a) (storeLeft a) ≡ endOf (lent m s) (clocksIn m s c)
 
-  clock-met : (m : Machine) (s : List ℕ) (line input number : ℕ) (left : Machine) (store : List ℕ) (out : Answer)
-      → ClockFacts p m s line input number left store out → Step m s (clockCall line input) (clockReturned number left store out)
+  clock-met : (m : Machine) (s : List ℕ) (lineByte input number : ℕ) (left : Machine) (store : List ℕ) (out : Answer)
+      → ClockFacts p m s lineByte input number left store out → Step m s (clockCall lineByte input) (clockReturned number left store out)
   unfolding clocksIn codeIn shown alone endedBy machineLeft storeLeft clocksOf recordEngine recordCode feed answer clocks endOf entries
       clockGives
-  clock-met m s line input number left store out h = record {
+  clock-met m s lineByte input number left store out h = record {
     show = rw (h .number) (seen code (h .outcome));
     reports = rw (h .number);
     left = lasts code (h .outcome);
   }
     where
       code : Bool
-      code = eqb (clockRefusal paperGeometry p (recordOf m) s line) 0
+      code = eqb (clockRefusal paperGeometry p (recordOf m) s lineByte) 0
 
       got : After Lent Answer
       got = record { state = lent left store; out = out }
 
       next : After Lent Answer
-      next = clockOf paperGeometry p (lent m s) (pins line input)
+      next = clockOf paperGeometry p (lent m s) (pins lineByte input)
 
       Is : Bool → Type 0
       Is t = got ≡ cond t next (record { state = lent m s; out = silent 0 })
 
       seen : (t : Bool) → Is t
-          → cond t (clocked (pins line input) (recordSeen paperGeometry (got .state)) (got .out) ∷ []) []
-          ≡ entries feed answer (recordEngine paperGeometry p) (cond t (next ∷ []) []) (pins line input ∷ [])
-      seen true e = ap (λ (u : After Lent Answer). clocked (pins line input) (recordSeen paperGeometry (u .state)) (u .out) ∷ []) e
+          → cond t (clocked (pins lineByte input) (recordSeen paperGeometry (got .state)) (got .out) ∷ []) []
+          ≡ entries feed answer (recordEngine paperGeometry p) (cond t (next ∷ []) []) (pins lineByte input ∷ [])
+      seen true e = ap (λ (u : After Lent Answer). clocked (pins lineByte input) (recordSeen paperGeometry (u .state)) (u .out) ∷ []) e
       seen false e = refl
 
       lasts : (t : Bool) → Is t → lent left store ≡ endOf (lent m s) (cond t (next ∷ []) [])
       lasts true e = ap (λ u. u .state) e
       lasts false e = ap (λ u. u .state) e
 
-  run-met : (m : Machine) (s lines inputs bytes words : List ℕ) (number : ℕ) (left : Machine) (store : List ℕ) (used finished : ℕ)
-      (bytes′ words′ : List ℕ) → RunFacts p m s lines inputs bytes words number left store used finished bytes′ words′
-      → Step m s (runCall lines inputs bytes words) (runReturned number left store used finished bytes′ words′)
+  run-met : (m : Machine) (s lineBytes inputs bytes words : List ℕ) (number : ℕ) (left : Machine) (store : List ℕ) (used finished : ℕ)
+      (bytes′ words′ : List ℕ) → RunFacts p m s lineBytes inputs bytes words number left store used finished bytes′ words′
+      → Step m s (runCall lineBytes inputs bytes words) (runReturned number left store used finished bytes′ words′)
   unfolding clocksIn codeIn shown clockHistory endedBy machineLeft storeLeft recordEngine recordCode clocksOf feed answer endOf runGives
       entries
-  run-met m s lines inputs bytes words number left store used finished bytes′ words′ h = record {
+  run-met m s lineBytes inputs bytes words number left store used finished bytes′ words′ h = record {
     show = rw (h .number) (seen (eqb code 0));
     reports = rw (h .number) (go (eqb code 0) refl);
     left = lasts (eqb code 0) refl;
   }
     where
       code : ℕ
-      code = runRefusal paperGeometry p (recordOf m) s lines inputs bytes words
+      code = runRefusal paperGeometry p (recordOf m) s lineBytes inputs bytes words
 
       got : Ran
       got = record { state = lent left store; used = used; finished = finished; bytes = bytes′; words = words′ }
@@ -102,44 +101,44 @@ module _ (p : List ℕ) where
       kept : Ran
       kept = record { state = lent m s; used = 0; finished = 0; bytes = bytes; words = words }
 
-      seen : (t : Bool) → cond t (clockHistory paperGeometry p m s (pinsOf lines inputs)) []
+      seen : (t : Bool) → cond t (clockHistory paperGeometry p m s (pinsOf lineBytes inputs)) []
           ≡ entries feed answer (recordEngine paperGeometry p)
-          (cond t (clocks (clockOf paperGeometry p) (lent m s) (pinsOf lines inputs)) []) (pinsOf lines inputs)
+          (cond t (clocks (clockOf paperGeometry p) (lent m s) (pinsOf lineBytes inputs)) []) (pinsOf lineBytes inputs)
       seen true = refl
       seen false = refl
 
-      gives : (t : Bool) → eqb code 0 ≡ t → got ≡ cond t (runOf paperGeometry p (lent m s) lines inputs) kept
-      gives t e = h .outcome ∙ ap (λ (b : Bool). cond b (runOf paperGeometry p (lent m s) lines inputs) kept) e
+      gives : (t : Bool) → eqb code 0 ≡ t → got ≡ cond t (runOf paperGeometry p (lent m s) lineBytes inputs) kept
+      gives t e = h .outcome ∙ ap (λ (b : Bool). cond b (runOf paperGeometry p (lent m s) lineBytes inputs) kept) e
 
-      none : eqb code 0 ≡ false → clocksIn m s (runCall lines inputs bytes words) ≡ []
-      none e = ap (λ (b : Bool). cond b (clocks (clockOf paperGeometry p) (lent m s) (pinsOf lines inputs)) []) e
+      none : eqb code 0 ≡ false → clocksIn m s (runCall lineBytes inputs bytes words) ≡ []
+      none e = ap (λ (b : Bool). cond b (clocks (clockOf paperGeometry p) (lent m s) (pinsOf lineBytes inputs)) []) e
 
       reported : ℕ → Ran → Ended
       reported n u = runEnds n (u .used) (u .finished) (u .bytes) (u .words)
 
       go : (t : Bool) → eqb code 0 ≡ t
           → reported code got
-          ≡ answer code (runCall lines inputs bytes words) (outsOf (clocksIn m s (runCall lines inputs bytes words)))
+          ≡ answer code (runCall lineBytes inputs bytes words) (outsOf (clocksIn m s (runCall lineBytes inputs bytes words)))
       go true e = ap (reported code) (gives true e)
-          ∙ ap (λ n. reported n (runOf paperGeometry p (lent m s) lines inputs)) (eqb-true code 0 e)
-          ∙ sym (runs-are-runs paperGeometry p (lent m s) lines inputs bytes words (eqb-true code 0 e) .reports)
-          ∙ ap (λ n. answer n (runCall lines inputs bytes words) (outsOf (clocksIn m s (runCall lines inputs bytes words))))
+          ∙ ap (λ n. reported n (runOf paperGeometry p (lent m s) lineBytes inputs)) (eqb-true code 0 e)
+          ∙ sym (runs-are-runs paperGeometry p (lent m s) lineBytes inputs bytes words (eqb-true code 0 e) .reports)
+          ∙ ap (λ n. answer n (runCall lineBytes inputs bytes words) (outsOf (clocksIn m s (runCall lineBytes inputs bytes words))))
           (sym (eqb-true code 0 e))
       go false e = ap (reported code) (gives false e) ∙ rw e
 
       lasts : (t : Bool) → eqb code 0 ≡ t
-          → lent left store ≡ endOf (lent m s) (clocksIn m s (runCall lines inputs bytes words))
+          → lent left store ≡ endOf (lent m s) (clocksIn m s (runCall lineBytes inputs bytes words))
       lasts true e = ap (λ u. u .state) (gives true e)
-          ∙ sym (runs-are-runs paperGeometry p (lent m s) lines inputs bytes words (eqb-true code 0 e) .state)
+          ∙ sym (runs-are-runs paperGeometry p (lent m s) lineBytes inputs bytes words (eqb-true code 0 e) .state)
       lasts false e = ap (λ u. u .state) (gives false e) ∙ sym (ap (endOf (lent m s)) (none e))
 
   step-of : (m : Machine) (s : List ℕ) (c : Call) (a : Returned) → Facts p m s c a → Step m s c a
   unfolding Facts
-  step-of m s (clockCall line input) (clockReturned number left store out) h = clock-met m s line input number left store out h
-  step-of m s (clockCall line input) (runReturned number left store used finished bytes′ words′) h = absurd h
-  step-of m s (runCall lines inputs bytes words) (clockReturned number left store out) h = absurd h
-  step-of m s (runCall lines inputs bytes words) (runReturned number left store used finished bytes′ words′) h =
-      run-met m s lines inputs bytes words number left store used finished bytes′ words′ h
+  step-of m s (clockCall lineByte input) (clockReturned number left store out) h = clock-met m s lineByte input number left store out h
+  step-of m s (clockCall lineByte input) (runReturned number left store used finished bytes′ words′) h = absurd h
+  step-of m s (runCall lineBytes inputs bytes words) (clockReturned number left store out) h = absurd h
+  step-of m s (runCall lineBytes inputs bytes words) (runReturned number left store used finished bytes′ words′) h =
+      run-met m s lineBytes inputs bytes words number left store used finished bytes′ words′ h
 
   met : (m : Machine) (s : List ℕ) (c : Call) (a : Returned) → Meets p m s c a → Step m s c a
   met m s c a h = step-of m s c a (facts p m s c a h)
@@ -168,7 +167,7 @@ module _ (p : List ℕ) where
       (exchangeLog paperGeometry p (machineLeft a) (storeLeft a) cs as′)
       ∙ left-last (machineLeft a) (storeLeft a) cs as′ (x .1)
 
--- the whole log is that of the reference machine
+-- the whole log equals that of the reference machine
 pub exchange-holds : (p s : List ℕ) (m : Machine) (cs : List Call) (as′ : List Returned) → Starts s m → Exchange p m s cs as′
     → Holds paperGeometry p s cs (seenAt paperGeometry m s) (exchangeLog paperGeometry p m s cs as′)
     (seenAt paperGeometry (machineAt m as′) (storeAt s as′))
@@ -179,12 +178,12 @@ exchange-holds p s m cs as′ h x = of-log paperGeometry paper-ok p s cs _ _ _
     ∙ same-log paperGeometry p s cs paper-ok (starts s m h .taken))
     (left-last p m s cs as′ x)
 
-history-take : (k : ℕ) (p : List ℕ) (x : Lent) (lines inputs : List ℕ)
-    → historyOf paperGeometry p x (take k lines) (take k inputs) ≡ take k (historyOf paperGeometry p x lines inputs)
+history-take : (k : ℕ) (p : List ℕ) (x : Lent) (lineBytes inputs : List ℕ)
+    → historyOf paperGeometry p x (take k lineBytes) (take k inputs) ≡ take k (historyOf paperGeometry p x lineBytes inputs)
 unfolding historyOf
-history-take k p x lines inputs =
-    ap (clocks (clockOf paperGeometry p) x) (sym (pins-take k lines inputs))
-    ∙ sym (clocks-take (clockOf paperGeometry p) k x (pinsOf lines inputs))
+history-take k p x lineBytes inputs =
+    ap (clocks (clockOf paperGeometry p) x) (sym (pins-take k lineBytes inputs))
+    ∙ sym (clocks-take (clockOf paperGeometry p) k x (pinsOf lineBytes inputs))
 
 -- the first k entries of a clock history: their answers, and what is seen last
 module _ (p : List ℕ) (m : Machine) (s : List ℕ) (k : ℕ) (is : List Pins) where
@@ -202,58 +201,58 @@ module _ (p : List ℕ) (m : Machine) (s : List ℕ) (k : ℕ) (is : List Pins) 
       ∙ entries-last feed answer (recordEngine paperGeometry p) (lent m s) (take k is)
       ∙ ap (λ ts. recordSeen paperGeometry (endOf (lent m s) ts)) (sym (clocks-take (clockOf paperGeometry p) k (lent m s) is)))
 
--- a run of the first k lines, by its facts
-prefix-of : (p : List ℕ) (m : Machine) (s lines inputs bytes words : List ℕ) (k : ℕ) (a : Returned) → k ≤ length lines
-    → Facts p m s (runCall (take k lines) (take k inputs) bytes words) a → codeReturned a ≡ 0 → Prefix p m s lines inputs k a
+-- a run of the first k line bytes, by its facts
+prefix-of : (p : List ℕ) (m : Machine) (s lineBytes inputs bytes words : List ℕ) (k : ℕ) (a : Returned) → k ≤ length lineBytes
+    → Facts p m s (runCall (take k lineBytes) (take k inputs) bytes words) a → codeReturned a ≡ 0 → Prefix p m s lineBytes inputs k a
 unfolding Facts runGives runOf historyOf codeReturned machineLeft storeLeft endedBy
-prefix-of p m s lines inputs bytes words k (clockReturned number left store out) few h z = absurd h
-prefix-of p m s lines inputs bytes words k (runReturned number left store used finished bytes′ words′) few h z = record {
+prefix-of p m s lineBytes inputs bytes words k (clockReturned number left store out) few h z = absurd h
+prefix-of p m s lineBytes inputs bytes words k (runReturned number left store used finished bytes′ words′) few h z = record {
   state = last;
-  seen = ap (recordSeen paperGeometry) last ∙ history-seen p m s k (pinsOf lines inputs);
+  seen = ap (recordSeen paperGeometry) last ∙ history-seen p m s k (pinsOf lineBytes inputs);
   reports = ap (λ n. runEnds n used finished bytes′ words′) z
       ∙ ap (λ (u : Ran). runEnds 0 (u .used) (u .finished) (u .bytes) (u .words)) taken
-      ∙ ap (λ n. reported n (outsOf first)) (length-take-le k lines few)
-      ∙ ap (λ ts. reported k (outsOf ts)) (history-take k p (lent m s) lines inputs)
-      ∙ ap (reported k) (history-answers p m s k (pinsOf lines inputs));
+      ∙ ap (λ n. reported n (outsOf first)) (length-take-le k lineBytes few)
+      ∙ ap (λ ts. reported k (outsOf ts)) (history-take k p (lent m s) lineBytes inputs)
+      ∙ ap (reported k) (history-answers p m s k (pinsOf lineBytes inputs));
 }
   where
     reported : ℕ → List Answer → Ended
     reported n outs = runEnds 0 n (finishedIn outs) (bytesOf outs) (wordsOf outs)
 
     first : List (After Lent Answer)
-    first = historyOf paperGeometry p (lent m s) (take k lines) (take k inputs)
+    first = historyOf paperGeometry p (lent m s) (take k lineBytes) (take k inputs)
 
     taken : _≡_ {A = Ran} (record { state = lent left store; used = used; finished = finished; bytes = bytes′; words = words′ })
-        (runOf paperGeometry p (lent m s) (take k lines) (take k inputs))
+        (runOf paperGeometry p (lent m s) (take k lineBytes) (take k inputs))
     taken = h .outcome
-        ∙ rw (eq-eqb (runRefusal paperGeometry p (recordOf m) s (take k lines) (take k inputs) bytes words) 0 (sym (h .number) ∙ z))
+        ∙ rw (eq-eqb (runRefusal paperGeometry p (recordOf m) s (take k lineBytes) (take k inputs) bytes words) 0 (sym (h .number) ∙ z))
 
-    last : lent left store ≡ endOf (lent m s) (take k (historyOf paperGeometry p (lent m s) lines inputs))
-    last = ap (λ u. u .state) taken ∙ ap (endOf (lent m s)) (history-take k p (lent m s) lines inputs)
+    last : lent left store ≡ endOf (lent m s) (take k (historyOf paperGeometry p (lent m s) lineBytes inputs))
+    last = ap (λ u. u .state) taken ∙ ap (endOf (lent m s)) (history-take k p (lent m s) lineBytes inputs)
 
-pub run-prefix : (p : List ℕ) (m : Machine) (s lines inputs bytes words : List ℕ) (k : ℕ) (a : Returned) → k ≤ length lines
-    → Meets p m s (runCall (take k lines) (take k inputs) bytes words) a → codeReturned a ≡ 0 → Prefix p m s lines inputs k a
-run-prefix p m s lines inputs bytes words k a few h z = prefix-of p m s lines inputs bytes words k a few
-    (facts p m s (runCall (take k lines) (take k inputs) bytes words) a h) z
+pub run-prefix : (p : List ℕ) (m : Machine) (s lineBytes inputs bytes words : List ℕ) (k : ℕ) (a : Returned) → k ≤ length lineBytes
+    → Meets p m s (runCall (take k lineBytes) (take k inputs) bytes words) a → codeReturned a ≡ 0 → Prefix p m s lineBytes inputs k a
+run-prefix p m s lineBytes inputs bytes words k a few h z = prefix-of p m s lineBytes inputs bytes words k a few
+    (facts p m s (runCall (take k lineBytes) (take k inputs) bytes words) a h) z
 
 -- a refused call, by its facts
 refused-of : (p : List ℕ) (m : Machine) (s : List ℕ) (c : Call) (a : Returned) → Facts p m s c a → codeReturned a ≢ 0
     → a ≡ asGiven m s c (codeReturned a)
 unfolding Facts clockGives runGives codeReturned asGiven back
-refused-of p m s (clockCall line input) (clockReturned number left store out) h n =
+refused-of p m s (clockCall lineByte input) (clockReturned number left store out) h n =
     ap (λ (u : After Lent Answer). clockReturned number (back (u .state .machine)) (u .state .store) (u .out)) same
   where
     same : _≡_ {A = After Lent Answer} (record { state = lent left store; out = out }) (record { state = lent m s; out = silent 0 })
-    same = h .outcome ∙ rw (ne-eqb (clockRefusal paperGeometry p (recordOf m) s line) 0 (λ z. n (h .number ∙ z)))
-refused-of p m s (clockCall line input) (runReturned number left store used finished bytes′ words′) h n = absurd h
-refused-of p m s (runCall lines inputs bytes words) (clockReturned number left store out) h n = absurd h
-refused-of p m s (runCall lines inputs bytes words) (runReturned number left store used finished bytes′ words′) h n =
+    same = h .outcome ∙ rw (ne-eqb (clockRefusal paperGeometry p (recordOf m) s lineByte) 0 (λ z. n (h .number ∙ z)))
+refused-of p m s (clockCall lineByte input) (runReturned number left store used finished bytes′ words′) h n = absurd h
+refused-of p m s (runCall lineBytes inputs bytes words) (clockReturned number left store out) h n = absurd h
+refused-of p m s (runCall lineBytes inputs bytes words) (runReturned number left store used finished bytes′ words′) h n =
     ap (λ (u : Ran). runReturned number (back (u .state .machine)) (u .state .store) (u .used) (u .finished) (u .bytes) (u .words)) same
   where
     same : _≡_ {A = Ran} (record { state = lent left store; used = used; finished = finished; bytes = bytes′; words = words′ })
         (record { state = lent m s; used = 0; finished = 0; bytes = bytes; words = words })
     same = h .outcome
-        ∙ rw (ne-eqb (runRefusal paperGeometry p (recordOf m) s lines inputs bytes words) 0 (λ z. n (h .number ∙ z)))
+        ∙ rw (ne-eqb (runRefusal paperGeometry p (recordOf m) s lineBytes inputs bytes words) 0 (λ z. n (h .number ∙ z)))
 
 pub refused-keeps : (p : List ℕ) (m : Machine) (s : List ℕ) (c : Call) (a : Returned) → Meets p m s c a → codeReturned a ≢ 0
     → a ≡ asGiven m s c (codeReturned a)

@@ -1,6 +1,6 @@
--- The last clock of a word: what carrying it out leaves in both machines agrees.
--- Idea: six facts (`Settled`) build the agreement; most words change no memory, no line and no history; LD and ST through the cache, ST
--- past it and turning it off are the others. Assumes nothing.
+-- The last clock of a word: what its execution leaves in both machines agrees.
+-- Idea: six facts (`Settled`) build the agreement; most words change no memory, no line and no history; the others are LD and ST through
+-- the cache, uncached ST, and turning the cache off.
 use Prim.Native.Nat.{ℕ, _+_, _%_, _<_}
 use mathlib.Core.Path.{_≡_, refl, sym, ap, ap₂, _∙_}
 use mathlib.Core.Bool.{Bool, true, false, _&&_, _||_}
@@ -33,7 +33,7 @@ use Rattle.trm_agreement.proofs.Laws.History.{Judged, Matches, judged-a
 use Rattle.trm_agreement.proofs.Laws.Relation.{Extra, plainOf, Common, MatchesBut, Due, ready, Agree}
 
 module _ (G : Geometry) where
-  -- what carrying out leaves
+  -- what execution leaves
   record Settled (w n : ℕ) (m : Machine) (s : List ℕ) (e : Extra) : Type 0 where
     size : length (storeAfter w n (visibleOf m) s) ≡ m .scalars .size
     memory : length (memoryAfter G w (plainOf m e)) ≡ m .scalars .size
@@ -119,7 +119,7 @@ module _ (G : Geometry) where
       go (yes e) = rw (since-here G a h l (sym e), e) (judged-access (since G h (lineOf G b)) a (lineAt G ca (lineOf G b)) f bl d)
       go (no n) = rw (since-there G a h l (λ e. n (sym e))) (mt l hl n)
 
-  -- what the definitions say of a word of kind k
+  -- what the definitions give for a word of kind k
   module _ (w : ℕ) (m : Machine) (s : List ℕ) (e : Extra) (c : Common G m s e) where
     -- an LD or ST through the cache
     cached-settled : Is cached w (visibleOf m) (m .scalars .size)
@@ -195,7 +195,7 @@ module _ (G : Geometry) where
               (rw (bc .here) full) (rw (bc .here) block) (rw (bc .here)));
         }
 
-    -- an LD or ST past the cache
+    -- an uncached LD or ST
     uncached-settled : Is uncached w (visibleOf m) (m .scalars .size) → Matches G (e .history) (cacheOf m)
         → Settled w (m .scalars .size) m s e
     unfolding cacheAfter storeAfter memoryAfter historyAfter

@@ -1,6 +1,5 @@
--- The first clock of a word, by its kind: the charge that the history gives is that of the record's own lines, and the clock agrees.
--- Idea: while the lines match the history, `charge` is `chargeHere`; both machines then end on the same test.
--- Assumes nothing.
+-- The first clock of a word, by its kind: the charge by the history is the charge by the record's own lines, and the clock agrees.
+-- Idea: while the lines match the history, `charge` is `chargeHere`; then both machines use the same test for the end.
 use Prim.Native.Nat.{ℕ, zero, suc, _+_, _*_, _<_}
 use mathlib.Core.Path.{_≡_, refl, sym, ap, _∙_}
 use mathlib.Core.Logic.{_≢_}
@@ -59,7 +58,7 @@ module _ (G : Geometry) (p : List ℕ) (w : ℕ) (m : Machine) (s : List ℕ) (e
           (lineAt G (cacheOf m) (targetLine G w (visibleOf m) (m .scalars .size)))
       here = mt _ (line-in G w (visibleOf m) (m .scalars .size) (cm .fit .lpos))
 
-  -- a word of one clock may be carried out
+  -- a word of one clock may be executed
   pub due-now : (k : Kind) → kindOf w (visibleOf m) (m .scalars .size) ≡ k
       → chargeHere G w (m .scalars .size) (visibleOf m) (cacheOf m) ≡ 1
       → Due G k w (m .scalars .size) (visibleOf m) (cacheOf m) (e .history)
@@ -77,7 +76,7 @@ module _ (G : Geometry) (p : List ℕ) (w : ℕ) (m : Machine) (s : List ℕ) (e
       none zero h = refl
       none (suc d) h = absurd (omega (arith, cm .fit .tpos))
 
-  -- the first clock of an access through the cache, of more than one
+  -- the first clock of an access through the cache that takes more than one
   first-cached : (left : ℕ) → kindOf w (visibleOf m) (m .scalars .size) ≡ cached → Is cached w (visibleOf m) (m .scalars .size)
       → chargeHere G w (m .scalars .size) (visibleOf m) (cacheOf m) ≡ suc left → 0 < left
       → Agree G p (quiet (m .regs) (firstClock G w (m .scalars .size) (m .scalars) (visibleOf m) (cacheOf m) s))

@@ -1,6 +1,5 @@
--- What the history says of each line, as one line of the cache says it.
+-- What the history says of each cache line agrees with the line itself.
 -- Idea: a line holds block b iff its last access was in b, and is dirty iff `lastDirty`; one law says what an access adds.
--- Assumes nothing.
 use Prim.Native.Nat.{ℕ, _<_}
 use mathlib.Core.Path.{_≡_, refl, sym, ap, _∙_}
 use mathlib.Core.Logic.{_≢_}
@@ -14,7 +13,7 @@ use Rattle.trm_cache.specs.Cache.{Line, lineAt, holds, countDirty, Cache}
 use Rattle.trm_cache.proofs.Laws.Cache.{holds-empty}
 use Rattle.trm_cache.proofs.Laws.Dirty.{howMany-ext}
 
--- the line holds what its accesses say
+-- the line is as its accesses say
 pub record Judged (as′ : List Touch) (ln : Line) : Type 0 where
   pub block : (b : ℕ) → holds ln b ≡ lastIn as′ b
   pub dirty : ln .dirty ≡ lastDirty as′
@@ -30,7 +29,7 @@ stored-since (a ∷ more) b = go (eqb (a .block) b) refl
     go true e = rw (eq-eqb (a .block) (a .block) refl, eqb-true (a .block) b e)
     go false e = refl
 
--- an access joins: its line
+-- an access joins: the line of the access
 pub last-dirty-more : (as′ : List Touch) (a : Touch) → lastDirty (a ∷ as′) ≡ a .store || (lastIn as′ (a .block) && lastDirty as′)
 unfolding storedSince lastDirty
 last-dirty-more as′ a = rw (eq-eqb (a .block) (a .block) refl) (ap (λ t. a .store || t) (stored-since as′ (a .block)))

@@ -1,6 +1,5 @@
 -- The interrupt rule in bits, and one clock of the plain machine from any state.
 -- Idea: the tests decide each case.
--- Assumes nothing.
 --   interrupt-rule    taken-in-bits, goes-to   what it gives        plain-clock
 use Prim.Native.Nat.{ℕ, _-_}
 use mathlib.Core.Path.{_≡_, refl, _∙_}
@@ -16,7 +15,7 @@ use Rattle.trm_word.specs.Fields.{bit}
 use Rattle.trm_reference.specs.Geometry.{Geometry}
 use Rattle.trm_reference.specs.Visible.{wordAt}
 use Rattle.trm_reference.specs.Access.{Answer, silent}
-use Rattle.trm_reference.specs.Interrupt.{stalled, lineRaised, interruptChosen}
+use Rattle.trm_reference.specs.Interrupt.{stalled, interruptRaised, interruptChosen}
 use Rattle.trm_reference.specs.Trace.{Pins, After}
 use Rattle.trm_reference.specs.Reference.{Reference, charge, carryOut, spend, takeOff, referenceHeld, referenceInterrupt}
 use Rattle.trm_reference.specs.Reference.{referenceUnheld, referenceClock}
@@ -25,9 +24,9 @@ use Rattle.trm_agreement.specs.Book.{raised, interrupts, interruptTo}
 use Rattle.trm_agreement.specs.Plain.{InterruptRule, PlainClock}
 
 pub interrupt-rule : InterruptRule
-unfolding interruptChosen lineRaised interrupts interruptTo raised
-interrupt-rule status line =
-    go (eqb (bit 2 status) 1) (eqb (bit 0 status) 1 && eqb (bit 0 line) 1) (eqb (bit 1 status) 1 && eqb (bit 1 line) 1)
+unfolding interruptChosen interruptRaised interrupts interruptTo raised
+interrupt-rule status lineByte =
+    go (eqb (bit 2 status) 1) (eqb (bit 0 status) 1 && eqb (bit 0 lineByte) 1) (eqb (bit 1 status) 1 && eqb (bit 1 lineByte) 1)
   where
     go : (m a c : Bool) → _≡_ {A = ℕ} (cond m 0 (cond a 2 (cond c 3 0))) (cond (not m && (a || c)) (cond a 2 3) 0)
     go true a c = refl
@@ -36,19 +35,19 @@ interrupt-rule status line =
     go false false false = refl
 
 -- whether the number is not 0; an interrupt that is taken goes to 2 or 3
-pub taken-in-bits : (status line : ℕ) → not (eqb (interruptChosen status line) 0) ≡ interrupts status line
+pub taken-in-bits : (status lineByte : ℕ) → not (eqb (interruptChosen status lineByte) 0) ≡ interrupts status lineByte
 unfolding interruptTo
-taken-in-bits status line = rw (interrupt-rule status line) (go (interrupts status line) (raised 0 status line))
+taken-in-bits status lineByte = rw (interrupt-rule status lineByte) (go (interrupts status lineByte) (raised 0 status lineByte))
   where
     go : (t a : Bool) → not (eqb (cond t (cond a 2 3) 0) 0) ≡ t
     go true true = refl
     go true false = refl
     go false a = refl
 
-pub goes-to : (status line : ℕ) → interrupts status line ≡ true → interruptChosen status line ≡ interruptTo status line
-goes-to status line e = interrupt-rule status line ∙ rw e
+pub goes-to : (status lineByte : ℕ) → interrupts status lineByte ≡ true → interruptChosen status lineByte ≡ interruptTo status lineByte
+goes-to status lineByte e = interrupt-rule status lineByte ∙ rw e
 
--- what a clock shows that carries a word out or does not, t telling of an interrupt
+-- what a clock shows that executes a word or does not; t is true for an interrupt
 record Shows (G : Geometry) (w : ℕ) (q : Reference) (input : ℕ) (t : Bool) (u : After Reference Answer) : Type 0 where
   carries : u .out .done ≡ 1 → u ≡ carryOut G w q input
   quiet : u .out .done ≢ 1 → u .out ≡ silent 0
@@ -80,12 +79,12 @@ module _ (G : Geometry) (p : List ℕ) (q : Reference) (i : Pins) where
   w = wordAt p (q .visible .pc)
 
   chosen : ℕ
-  chosen = interruptChosen (q .visible .status) (i .line)
+  chosen = interruptChosen (q .visible .status) (i .lineByte)
 
   shows : Shows G (wordAt p (q .visible .pc)) q (i .input)
-      (not (stalled (i .line)) && eqb (q .left) 0 && interrupts (q .visible .status) (i .line)) (referenceClock G p q i)
+      (not (stalled (i .lineByte)) && eqb (q .left) 0 && interrupts (q .visible .status) (i .lineByte)) (referenceClock G p q i)
   unfolding referenceClock referenceUnheld w chosen
-  shows = rw (← taken-in-bits (q .visible .status) (i .line)) (go (stalled (i .line)) (eqb (q .left) 0) (eqb chosen 0))
+  shows = rw (← taken-in-bits (q .visible .status) (i .lineByte)) (go (stalled (i .lineByte)) (eqb (q .left) 0) (eqb chosen 0))
     where
       go : (s z c : Bool) → Shows G w q (i .input) (not s && z && not c)
           (cond s (referenceHeld q) (cond z (cond c (takeOff G w q (charge G w q) (i .input)) (referenceInterrupt chosen q))
@@ -99,7 +98,7 @@ module _ (G : Geometry) (p : List ℕ) (q : Reference) (i : Pins) where
   unfolding referenceClock referenceUnheld
   plain-clock = record {
     held = λ s. rw s;
-    takes = λ s z e. rw (s, eq-eqb (q .left) 0 z, named e, goes-to (q .visible .status) (i .line) e);
+    takes = λ s z e. rw (s, eq-eqb (q .left) 0 z, named e, goes-to (q .visible .status) (i .lineByte) e);
     begins = λ s z e. rw (s, eq-eqb (q .left) 0 z, unnamed e);
     goesOn = λ s z. rw (s, ne-eqb (q .left) 0 z);
     carries = shows .carries;
@@ -107,16 +106,16 @@ module _ (G : Geometry) (p : List ℕ) (q : Reference) (i : Pins) where
     still = shows .still;
   }
     where
-      other : (t u : Bool) → not (eqb (interruptChosen (q .visible .status) (i .line)) 0) ≡ t → t ≡ u
-          → eqb (interruptChosen (q .visible .status) (i .line)) 0 ≡ not u
-      other t u e f = flip (eqb (interruptChosen (q .visible .status) (i .line)) 0) u (e ∙ f)
+      other : (t u : Bool) → not (eqb (interruptChosen (q .visible .status) (i .lineByte)) 0) ≡ t → t ≡ u
+          → eqb (interruptChosen (q .visible .status) (i .lineByte)) 0 ≡ not u
+      other t u e f = flip (eqb (interruptChosen (q .visible .status) (i .lineByte)) 0) u (e ∙ f)
         where
           flip : (a b : Bool) → not a ≡ b → a ≡ not b
           flip true b e = rw (← e)
           flip false b e = rw (← e)
 
-      named : interrupts (q .visible .status) (i .line) ≡ true → eqb (interruptChosen (q .visible .status) (i .line)) 0 ≡ false
-      named e = other _ true (taken-in-bits (q .visible .status) (i .line)) e
+      named : interrupts (q .visible .status) (i .lineByte) ≡ true → eqb (interruptChosen (q .visible .status) (i .lineByte)) 0 ≡ false
+      named e = other _ true (taken-in-bits (q .visible .status) (i .lineByte)) e
 
-      unnamed : interrupts (q .visible .status) (i .line) ≡ false → eqb (interruptChosen (q .visible .status) (i .line)) 0 ≡ true
-      unnamed e = other _ false (taken-in-bits (q .visible .status) (i .line)) e
+      unnamed : interrupts (q .visible .status) (i .lineByte) ≡ false → eqb (interruptChosen (q .visible .status) (i .lineByte)) 0 ≡ true
+      unnamed e = other _ false (taken-in-bits (q .visible .status) (i .lineByte)) e

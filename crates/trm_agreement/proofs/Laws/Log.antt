@@ -1,6 +1,5 @@
 -- Laws of a log, for any machine: its clocks, answers and returns, what is seen last, and that a list of calls is a list of clocks.
--- Idea: each call gives its clocks and then its end; the clocks of two lists of inputs follow each other.
--- Assumes nothing.
+-- Idea: each call gives its clocks and then its end; the clocks of two lists of inputs, one after the other, are those of the joined list.
 --   entries-append, entries-take, entries-answers, entries-last, entries-returns    the entries of a list of clocks
 --   calls-state, calls-clocked, calls-answers, calls-last                           the entries of a list of calls
 use Prim.Native.Nat.{ℕ, zero, suc}
@@ -37,7 +36,7 @@ answers-clocked (started w ∷ es) = answers-clocked es
 answers-clocked (clocked i w o ∷ es) = ap (λ os. o ∷ os) (answers-clocked es)
 answers-clocked (ended w a ∷ es) = answers-clocked es
 
--- what is seen last in a log that goes on after the end of a call
+-- what is seen last in a log that continues after the end of a call
 pub last-ended : {I O W A : Type 0} (w v : W) (a : A) (ds es : List (Entry I O W A)) → lastSeen w (ds ++ ended v a ∷ es) ≡ lastSeen v es
 unfolding lastSeen
 last-ended w v a [] es = refl

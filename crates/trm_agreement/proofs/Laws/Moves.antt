@@ -1,6 +1,5 @@
--- What the clocks that carry nothing out have in common: the builders of their agreement, and when the counts move.
--- Idea: `moved-agrees` for a clock that only moves, `common-move` for what holds in every phase; the reference machine's counts by kind.
--- Assumes nothing.
+-- What the clocks that execute nothing have in common: the laws that build their agreement, and when the counts change.
+-- Idea: `moved-agrees` for such a clock, `common-move` for what holds in every phase; the reference machine's counts by kind.
 use Prim.Native.Nat.{ℕ, _+_, _-_, _%_, _≤_, _<_}
 use mathlib.Core.Path.{_≡_, refl, ap, _∙_}
 use mathlib.Core.Logic.{_≢_}
@@ -26,11 +25,11 @@ use Rattle.trm_cache.proofs.Laws.Cache.{dirty-full, Sane, sane-update}
 use Rattle.trm_cache.proofs.Laws.Bursts.{Written, write-length, write-other, written-more, write-view, written-ok, writing-ok}
 use Rattle.trm_agreement.proofs.Laws.Relation.{Extra, plainOf, Common, Flight, Related, Agree}
 
--- the record of a clock that carries nothing out
+-- the record after a clock that executes nothing
 abbrev pub movedTo : Machine → Running → Cache → ℕ → ℕ → Machine
 movedTo m r ca refilled written = whole (advanced (m .scalars) r refilled written) (m .regs) ca
 
--- the extra part with other clocks left
+-- the extra part with another number of clocks left
 abbrev pub leaving : Extra → ℕ → Extra
 leaving e left = record { memory = e .memory; history = e .history; left = left }
 
@@ -122,7 +121,7 @@ module _ (G : Geometry) where
       )
 
   module _ (w : ℕ) (m : Machine) (s : List ℕ) (e : Extra) (cm : Common G m s e) where
-    -- the history's judgement of the access, by its line
+    -- what the history says of the access, in terms of its line
     pub misses-is : misses G w (plainOf m e)
         ≡ not (lastIn (since G (e .history) (targetLine G w (visibleOf m) (m .scalars .size)))
         (targetBlock G w (visibleOf m) (m .scalars .size)))
@@ -133,7 +132,7 @@ module _ (G : Geometry) where
     unfolding evicts dirtyNow
     evicts-is = rw (cm .memory)
 
-    -- when the counts of the reference machine move, for an access through the cache
+    -- when the counts of the reference machine change, for an access through the cache
     pub cached-refill : (n : ℕ) → Is cached w (visibleOf m) (m .scalars .size)
         → refillOver G w (plainOf m e) n ≡ cond (misses G w (plainOf m e) && eqb n 1) 1 0
     unfolding refillOver
@@ -161,7 +160,7 @@ module _ (G : Geometry) where
     no-writeback k n is h c = rw (cm .memory, is .through, h, is .off, c)
 
   module _ (p : List ℕ) (w : ℕ) (m : Machine) (s : List ℕ) (e : Extra) (cm : Common G m s e) (wq : wordAt p (m .scalars .pc) ≡ w) where
-    -- a move that touches neither lines nor store nor counts
+    -- a move that changes neither lines nor store nor counts
     pub plain-move : (k : Kind) (r : Running) (left : ℕ) → kindOf w (visibleOf m) (m .scalars .size) ≡ k
         → refillOver G w (plainOf m e) left ≡ 0 → writebackOver G w (plainOf m e) left ≡ 0
         → Flight G w (m .scalars .size) k r (visibleOf m) (cacheOf m) s (e .history) left

@@ -1,6 +1,5 @@
--- What the numbers of the calls say: none is 5.
+-- No call returns 5.
 -- Idea: the reference machine's numbers are those of rows 3, 6, 7 and 8.
--- Assumes nothing.
 use Prim.Native.Nat.{ℕ, _+_}
 use mathlib.Core.Path.{_≡_, refl, sym}
 use mathlib.Core.Logic.{_≢_}
@@ -15,7 +14,7 @@ use Rattle.trm_reference.specs.Geometry.{Geometry}
 use Rattle.trm_reference.specs.Access.{Answer}
 use Rattle.trm_reference.specs.Trace.{endOf, finishedIn}
 use Rattle.trm_reference.specs.Reference.{Reference}
-use Rattle.trm_core.specs.Refusals.{programOk, countRow, clockRows, linesRefused, runRows}
+use Rattle.trm_core.specs.Refusals.{programOk, countRow, clockRows, lineBytesRefused, runRows}
 use Rattle.trm_core.specs.Run.{bytesOf, wordsOf}
 use Rattle.trm_agreement.specs.Log.{clocksOf, calls, returnsIn}
 use Rattle.trm_agreement.specs.Calls.{Call, clockCall, runCall, feed, answer, numberOf, runEnds, ownRows, referenceCode}
@@ -23,7 +22,7 @@ use Rattle.trm_agreement.specs.Calls.{referenceEngine}
 use Rattle.trm_agreement.specs.Demand.{All}
 use Rattle.trm_agreement.proofs.Laws.Log.{entries-returns}
 
--- the reference machine gives 0, 3, 6, 7 and 8 alone
+-- the reference machine gives only 0, 3, 6, 7 and 8
 abbrev NotFive : ℕ → Type 0
 NotFive n = n ≢ 5
 
@@ -33,19 +32,19 @@ count-row k n = chosen NotFive (ltb 4294967295 (k + n)) (λ z. absurd (omega ari
 
 own-rows : (k : ℕ) (c : Call) → ownRows k c ≢ 5
 unfolding ownRows clockRows runRows
-own-rows k (clockCall line input) = chosen NotFive (ltb 7 line) (λ z. absurd (omega arith)) (count-row k 1)
-own-rows k (runCall lines inputs bytes words) = chosen NotFive (linesRefused lines inputs) (λ z. absurd (omega arith))
-    (chosen NotFive (not (eqb (length bytes) (length lines)) || not (eqb (length words) (length lines)))
-    (λ z. absurd (omega arith)) (count-row k (length lines)))
+own-rows k (clockCall lineByte input) = chosen NotFive (ltb 7 lineByte) (λ z. absurd (omega arith)) (count-row k 1)
+own-rows k (runCall lineBytes inputs bytes words) = chosen NotFive (lineBytesRefused lineBytes inputs) (λ z. absurd (omega arith))
+    (chosen NotFive (not (eqb (length bytes) (length lineBytes)) || not (eqb (length words) (length lineBytes)))
+    (λ z. absurd (omega arith)) (count-row k (length lineBytes)))
 
 -- the number that a call returns is the one that it was refused with
 number-is : (code : ℕ) (c : Call) (outs : List Answer) → numberOf (answer code c outs) ≡ code
 unfolding numberOf answer
-number-is code (clockCall line input) outs = refl
-number-is code (runCall lines inputs bytes words) outs = go (eqb code 0) refl
+number-is code (clockCall lineByte input) outs = refl
+number-is code (runCall lineBytes inputs bytes words) outs = go (eqb code 0) refl
   where
     go : (t : Bool) → eqb code 0 ≡ t
-        → numberOf (cond t (runEnds 0 (length lines) (finishedIn outs) (bytesOf outs) (wordsOf outs)) (runEnds code 0 0 bytes words)) ≡
+        → numberOf (cond t (runEnds 0 (length lineBytes) (finishedIn outs) (bytesOf outs) (wordsOf outs)) (runEnds code 0 0 bytes words)) ≡
         code
     go true e = sym (eqb-true code 0 e)
     go false e = refl

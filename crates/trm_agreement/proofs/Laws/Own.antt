@@ -1,6 +1,5 @@
--- What trm_calls' functions hand back by the definitions meets their contracts, on every input.
--- Idea: a refusal from its number; the rest is what the definitions give.
--- Assumes nothing.
+-- What the functions of trm_calls return by the definitions meets their contracts, for every input.
+-- Idea: a refusal is made from its number; the rest is what the definitions give.
 use Prim.Native.Nat.{ℕ, _+_}
 use mathlib.Core.Path.{_≡_, refl}
 use mathlib.Core.Bool.{Bool, cond, not, _||_}
@@ -14,15 +13,15 @@ use Rattle.trm_reference.specs.Access.{Answer}
 use Rattle.trm_reference.specs.Trace.{After}
 use Rattle.trm_core.specs.Record as core
 use Rattle.trm_core.specs.Record.{Lent}
-use Rattle.trm_core.specs.Refusals.{programOk, storeOk, recordRows, countRow, clockRows, linesRefused, runRows}
+use Rattle.trm_core.specs.Refusals.{programOk, storeOk, recordRows, countRow, clockRows, lineBytesRefused, runRows}
 use Rattle.trm_core.specs.Refusals.{resetRefusal, clockRefusal, runRefusal}
 use Rattle.trm_core.specs.Rule.{recordOk}
 use Rattle.trm_core.specs.Run.{Ran}
-use Rattle.trm_refusals.specs.Numbers.{numberOf as refusalNumber}
-use Rattle.trm_refusals.specs.declared.refusal.Refusal.{Refusal}
-use Rattle.trm_refusals.specs.declared.refusal.Refusal.the-variants.{Accepted, Program, Store, Record, Lines, Buffers, Clocks}
-use Rattle.trm_engine.specs.declared.machine.Machine.{Machine}
-use Rattle.trm_engine.specs.Machine.{recordOf, lent}
+use Rattle.trm_call_refusals.specs.Numbers.{numberOf as refusalNumber}
+use Rattle.trm_call_refusals.specs.declared.refusal.Refusal.{Refusal}
+use Rattle.trm_call_refusals.specs.declared.refusal.Refusal.the-variants.{Accepted, Program, Store, Record, LineBytes, Buffers, Clocks}
+use Rattle.trm_run_machine.specs.declared.machine.Machine.{Machine}
+use Rattle.trm_run_machine.specs.Machine.{recordOf, lent}
 use Rattle.trm_calls.specs.Promises.{pins, resetGives, clockGives, runGives}
 use Rattle.trm_agreement.specs.Claims.{ResetAnswered, ClockAnswered, RunAnswered, OwnAnswered}
 use Rattle.trm_agreement.proofs.Laws.Witness.{back, holding}
@@ -30,7 +29,7 @@ use Rattle.trm_agreement.proofs.Laws.Witness.{back, holding}
 -- a refusal from its number
 refusalOf : ℕ → Refusal
 refusalOf n = cond (eqb n 0) Accepted
-    (cond (eqb n 3) Program (cond (eqb n 4) Store (cond (eqb n 5) Record (cond (eqb n 6) Lines (cond (eqb n 7) Buffers Clocks)))))
+    (cond (eqb n 3) Program (cond (eqb n 4) Store (cond (eqb n 5) Record (cond (eqb n 6) LineBytes (cond (eqb n 7) Buffers Clocks)))))
 
 -- the number of a row
 Named : ℕ → Type 0
@@ -52,19 +51,19 @@ reset-named : (s : List ℕ) → Named (resetRefusal s)
 unfolding Named refusalOf resetRefusal
 reset-named s = row 0 refl (storeLengthOk (length s)) 4 refl
 
-clock-named : (p : List ℕ) (m : core.Machine) (s : List ℕ) (line : ℕ) → Named (clockRefusal paperGeometry p m s line)
+clock-named : (p : List ℕ) (m : core.Machine) (s : List ℕ) (lineByte : ℕ) → Named (clockRefusal paperGeometry p m s lineByte)
 unfolding Named refusalOf clockRefusal clockRows
-clock-named p m s line = rows-named p m s (clockRows (m .scalars .counts .clocks) line)
-    (row 6 refl (ltb 7 line) _ (count-named (m .scalars .counts .clocks) 1))
+clock-named p m s lineByte = rows-named p m s (clockRows (m .scalars .counts .clocks) lineByte)
+    (row 6 refl (ltb 7 lineByte) _ (count-named (m .scalars .counts .clocks) 1))
 
-run-named : (p : List ℕ) (m : core.Machine) (s lines inputs bytes words : List ℕ)
-    → Named (runRefusal paperGeometry p m s lines inputs bytes words)
+run-named : (p : List ℕ) (m : core.Machine) (s lineBytes inputs bytes words : List ℕ)
+    → Named (runRefusal paperGeometry p m s lineBytes inputs bytes words)
 unfolding Named refusalOf runRefusal runRows
-run-named p m s lines inputs bytes words =
-    rows-named p m s (runRows (m .scalars .counts .clocks) lines inputs bytes words)
-    (row 6 refl (linesRefused lines inputs) _
-    (row 7 refl (not (eqb (length bytes) (length lines)) || not (eqb (length words) (length lines))) _
-    (count-named (m .scalars .counts .clocks) (length lines))))
+run-named p m s lineBytes inputs bytes words =
+    rows-named p m s (runRows (m .scalars .counts .clocks) lineBytes inputs bytes words)
+    (row 6 refl (lineBytesRefused lineBytes inputs) _
+    (row 7 refl (not (eqb (length bytes) (length lineBytes)) || not (eqb (length words) (length lineBytes))) _
+    (count-named (m .scalars .counts .clocks) (length lineBytes))))
 
 reset-answered : (s : List ℕ) → ResetAnswered s
 unfolding back holding Named
@@ -73,11 +72,11 @@ reset-answered s = record {
   met = record { lifetimes = ([], tt); store = holding s; holds = refl; ensures = record { number = reset-named s; machine = refl } };
 }
 
-clock-answered : (m : Machine) (p s : List ℕ) (line input : ℕ) → ClockAnswered m p s line input
+clock-answered : (m : Machine) (p s : List ℕ) (lineByte input : ℕ) → ClockAnswered m p s lineByte input
 unfolding back holding Named
-clock-answered m p s line input = record {
+clock-answered m p s lineByte input = record {
   result = record {
-    refused = refusalOf (clockRefusal paperGeometry p (recordOf m) s line);
+    refused = refusalOf (clockRefusal paperGeometry p (recordOf m) s lineByte);
     machine = back (t .state .machine);
     byte = t .out .byte;
     word = t .out .word;
@@ -90,18 +89,18 @@ clock-answered m p s line input = record {
     store = holding s;
     store′ = holding (t .state .store);
     holds = (refl, refl, refl);
-    ensures = record { number = clock-named p (recordOf m) s line; outcome = refl };
+    ensures = record { number = clock-named p (recordOf m) s lineByte; outcome = refl };
   };
 }
   where
     t : After Lent Answer
-    t = clockGives p (lent m s) (pins line input)
+    t = clockGives p (lent m s) (pins lineByte input)
 
-run-answered : (m : Machine) (p s lines inputs bytes words : List ℕ) → RunAnswered m p s lines inputs bytes words
+run-answered : (m : Machine) (p s lineBytes inputs bytes words : List ℕ) → RunAnswered m p s lineBytes inputs bytes words
 unfolding back holding Named
-run-answered m p s lines inputs bytes words = record {
+run-answered m p s lineBytes inputs bytes words = record {
   result = record {
-    refused = refusalOf (runRefusal paperGeometry p (recordOf m) s lines inputs bytes words);
+    refused = refusalOf (runRefusal paperGeometry p (recordOf m) s lineBytes inputs bytes words);
     machine = back (t .state .machine);
     used = t .used;
     finished = t .finished;
@@ -114,19 +113,19 @@ run-answered m p s lines inputs bytes words = record {
     program = holding p;
     store = holding s;
     store′ = holding (t .state .store);
-    lineBytes = holding lines;
+    lineBytes = holding lineBytes;
     inputWords = holding inputs;
     answerBytes = holding bytes;
     answerBytes′ = holding (t .bytes);
     answerWords = holding words;
     answerWords′ = holding (t .words);
     holds = (refl, refl, refl, refl, refl, refl, refl, refl, refl);
-    ensures = record { number = run-named p (recordOf m) s lines inputs bytes words; outcome = refl };
+    ensures = record { number = run-named p (recordOf m) s lineBytes inputs bytes words; outcome = refl };
   };
 }
   where
     t : Ran
-    t = runGives p (lent m s) lines inputs bytes words
+    t = runGives p (lent m s) lineBytes inputs bytes words
 
 pub own-answered : OwnAnswered
 own-answered = record { reset = reset-answered; clock = clock-answered; run = run-answered }

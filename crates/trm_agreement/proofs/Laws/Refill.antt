@@ -1,6 +1,5 @@
--- The clocks of a refill agree with the reference machine's.
--- Idea: each gives the builders of `Laws.Moves` its new line and flight, by whether the burst ends.
--- Assumes nothing.
+-- The clocks of a refill agree with those of the reference machine.
+-- Idea: each gives the laws of `Laws.Moves` its new line and its state in flight, by cases of whether the burst ends.
 use Prim.Native.Nat.{ℕ, suc, _+_, _*_, _≤_, _<_}
 use mathlib.Core.Path.{_≡_, refl, ap, _∙_}
 use mathlib.Core.Bool.{Bool, true, false, cond, not, _&&_}

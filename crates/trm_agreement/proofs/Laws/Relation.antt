@@ -1,6 +1,5 @@
--- The relation of the two machines: the reference machine is the record's visible part and counts with a flat memory, a history and
--- clocks left. Idea: what holds in every phase is `Common`; what is in flight is a data type with a constructor for each phase.
--- Assumes nothing.
+-- The relation between the two machines: the reference machine is the record's visible part and counts with a flat memory, a history and a
+-- number of clocks left. Idea: what holds in every phase is `Common`; what is in flight is a data type with a constructor for each phase.
 use Prim.Native.Nat.{ℕ, _+_, _*_, _≤_, _<_}
 use mathlib.Core.Path.{_≡_}
 use mathlib.Core.Logic.{_≢_}
@@ -27,7 +26,7 @@ use Rattle.trm_cache.proofs.Laws.Cache.{Sane}
 use Rattle.trm_cache.proofs.Laws.Bursts.{Written, Filled}
 use Rattle.trm_agreement.proofs.Laws.History.{Judged, Matches}
 
--- what the reference machine has beside the visible part and the counts
+-- what the reference machine has in addition to the visible part and the counts
 pub record Extra : Type 0 where
   pub memory : List ℕ
   pub history : List Event
@@ -65,7 +64,7 @@ pub record Common (G : Geometry) (m : Machine) (s : List ℕ) (e : Extra) : Type
   pub counted : Counted m
 
 module _ (G : Geometry) where
-  -- all lines but k
+  -- all cache lines but k
   abbrev pub MatchesBut : ℕ → List Event → Cache → Type 0
   MatchesBut k h ca = (l : ℕ) → l < G .lines → l ≢ k → Judged (since G h l) (lineAt G ca l)
 
@@ -85,7 +84,7 @@ module _ (G : Geometry) where
   Due uncached w n v ca h = Matches G h ca
   Due clearing w n v ca h = countDirty G ca ≡ 0
 
-  -- what is in flight: the running part r, the store s, the history h, the clocks left
+  -- what is in flight: the running part r, the store s, the history h and the clocks left
   pub data Flight (w n : ℕ) (k : Kind) (r : Running) (v : Visible) (ca : Cache) (s : List ℕ) (h : List Event) (left : ℕ) : Type 0 where
     ready : r ≡ inPhase 0 0 → left ≡ 0 → Matches G h ca → Flight w n k r v ca s h left
     arithmetic : k ≡ longer → r ≡ stepping w v (r .count) → 1 ≤ r .count → r .count + left ≡ 33 → 0 < left → Matches G h ca

@@ -1,6 +1,5 @@
--- Demand 3: from an accepted reset the two machines are in step, so every list of calls gives one log.
--- Idea: the relation with room for the clocks of a call that row 8 lets through; it holds after a reset, and every clock keeps it.
--- Assumes nothing.
+-- Demand 3: from an accepted reset the two machines run in step, so every list of calls gives the same log.
+-- Idea: the relation, with room for the clocks of a call that passes row 8; it holds after a reset, and every clock keeps it.
 use Prim.Native.Nat.{ℕ, suc, _+_, _-_, _≤_, _<_}
 use mathlib.Core.Path.{_≡_, refl, sym, _∙_}
 use mathlib.Core.Bool.{Bool, true, false, cond, not, _||_}
@@ -23,7 +22,7 @@ use Rattle.trm_reference.proofs.Laws.Trace.{pins-length}
 use Rattle.trm_cache.specs.Cache.{lineAt, view}
 use Rattle.trm_core.specs.Record.{Lent, cacheOf, resetOf}
 use Rattle.trm_core.specs.Clock.{clockOf}
-use Rattle.trm_core.specs.Refusals.{allAtMost, programOk, storeOk, recordRows, countRow, clockRows, linesRefused, runRows, resetRefusal}
+use Rattle.trm_core.specs.Refusals.{allAtMost, programOk, storeOk, recordRows, countRow, clockRows, lineBytesRefused, runRows, resetRefusal}
 use Rattle.trm_core.specs.Refusals.{clockRefusal, runRefusal}
 use Rattle.trm_core.specs.Rule.{recordOk}
 use Rattle.trm_core.proofs.Laws.Fit.{Fit, fit, any-line-in}
@@ -42,8 +41,8 @@ use Rattle.trm_agreement.proofs.Laws.Accepted.{accepted}
 -- each clock of the reference machine adds one
 pub clock-next : (G : Geometry) (p : List ℕ) (q : Reference) (pins : Pins) → referenceClock G p q pins .state .clocks ≡ q .clocks + 1
 unfolding referenceClock referenceHeld referenceUnheld referenceInterrupt takeOff carryOut spend
-clock-next G p q pins = chosen Next (stalled (pins .line)) refl
-    (chosen Next (eqb (q .left) 0) (chosen Next (eqb (interruptChosen (q .visible .status) (pins .line)) 0) (off (charge G w q)) refl)
+clock-next G p q pins = chosen Next (stalled (pins .lineByte)) refl
+    (chosen Next (eqb (q .left) 0) (chosen Next (eqb (interruptChosen (q .visible .status) (pins .lineByte)) 0) (off (charge G w q)) refl)
     (off (q .left)))
   where
     w : ℕ
@@ -56,7 +55,7 @@ clock-next G p q pins = chosen Next (stalled (pins .line)) refl
     off n = chosen Next (eqb (n - 1) 0) {a = carryOut G w q (pins .input)} {b = spend G w q (n - 1)} refl refl
 
 module _ (G : Geometry) (p : List ℕ) where
-  -- in step, with room for n clocks more
+  -- in step, with room for n more clocks
   record Tied (n : ℕ) (x : Lent) (q : Reference) : Type 0 where
     extra : Extra
     plain : q ≡ plainOf (x .machine) extra
@@ -93,7 +92,7 @@ module _ (G : Geometry) (p : List ℕ) where
       c : Common G (x .machine) (x .store) (t .extra)
       c = t .related .common
 
-  -- rows 4 and 5 let a record in step through
+  -- a record in step passes rows 4 and 5
   rows-are : (x : Lent) (q : Reference) (rest : ℕ) → Tied 0 x q
       → recordRows G p (x .machine) (x .store) rest ≡ cond (not (programOk p)) 3 rest
   unfolding recordRows storeOk
@@ -110,11 +109,11 @@ module _ (G : Geometry) (p : List ℕ) where
 
   tied-code : (x : Lent) (q : Reference) (c : Call) → Tied 0 x q → recordCode G p x c ≡ referenceCode p q c
   unfolding recordCode referenceCode ownRows clockRefusal runRefusal
-  tied-code x q (clockCall line input) t = rw (t .plain) (rows-are x q (clockRows (x .machine .scalars .counts .clocks) line) t)
-  tied-code x q (runCall lines inputs bytes words) t =
-      rw (t .plain) (rows-are x q (runRows (x .machine .scalars .counts .clocks) lines inputs bytes words) t)
+  tied-code x q (clockCall lineByte input) t = rw (t .plain) (rows-are x q (clockRows (x .machine .scalars .counts .clocks) lineByte) t)
+  tied-code x q (runCall lineBytes inputs bytes words) t =
+      rw (t .plain) (rows-are x q (runRows (x .machine .scalars .counts .clocks) lineBytes inputs bytes words) t)
 
-  -- row 8 leaves room for the clocks of a call that it lets through
+  -- a call that passes row 8 has room for its clocks
   count-room : (k n : ℕ) → countRow k n ≡ 0 → k + n ≤ 4294967295
   unfolding countRow
   count-room k n = go (ltb 4294967295 (k + n)) refl
@@ -124,21 +123,21 @@ module _ (G : Geometry) (p : List ℕ) where
       go false z y = ltb-false 4294967295 (k + n) z
 
   own-room : (k : ℕ) (c : Call) → ownRows k c ≡ 0 → k + length (feed c) ≤ 4294967295
-  unfolding ownRows clockRows runRows linesRefused feed
-  own-room k (clockCall line input) = go (ltb 7 line)
+  unfolding ownRows clockRows runRows lineBytesRefused feed
+  own-room k (clockCall lineByte input) = go (ltb 7 lineByte)
     where
       go : (t : Bool) → cond t 6 (countRow k 1) ≡ 0 → k + 1 ≤ 4294967295
       go true y = absurd (omega arith)
       go false y = count-room k 1 y
-  own-room k (runCall lines inputs bytes words) =
-      go (eqb (length lines) (length inputs)) refl (ltb 65536 (length lines)) (not (allAtMost 7 lines))
-      (not (eqb (length bytes) (length lines)) || not (eqb (length words) (length lines)))
+  own-room k (runCall lineBytes inputs bytes words) =
+      go (eqb (length lineBytes) (length inputs)) refl (ltb 65536 (length lineBytes)) (not (allAtMost 7 lineBytes))
+      (not (eqb (length bytes) (length lineBytes)) || not (eqb (length words) (length lineBytes)))
     where
-      go : (same : Bool) → eqb (length lines) (length inputs) ≡ same → (long bad other : Bool)
-          → cond (not same || long || bad) 6 (cond other 7 (countRow k (length lines))) ≡ 0
-          → k + length (pinsOf lines inputs) ≤ 4294967295
-      go true e false false false y = rw (pins-length lines inputs (eqb-true (length lines) (length inputs) e))
-          (count-room k (length lines) y)
+      go : (same : Bool) → eqb (length lineBytes) (length inputs) ≡ same → (long bad other : Bool)
+          → cond (not same || long || bad) 6 (cond other 7 (countRow k (length lineBytes))) ≡ 0
+          → k + length (pinsOf lineBytes inputs) ≤ 4294967295
+      go true e false false false y = rw (pins-length lineBytes inputs (eqb-true (length lineBytes) (length inputs) e))
+          (count-room k (length lineBytes) y)
       go true e false false true y = absurd (omega arith)
       go true e false true other y = absurd (omega arith)
       go true e true bad other y = absurd (omega arith)

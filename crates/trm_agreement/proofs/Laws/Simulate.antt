@@ -1,6 +1,6 @@
--- Two machines in step give one log: the induction over a list of calls, once for any two machines.
--- Idea: a relation that every clock keeps, that what is seen and the numbers of the calls agree under; R n has room for n clocks more,
--- and a call that is not turned down has room for its own. Assumes nothing.
+-- Two machines in step give the same log: the induction over a list of calls, once for any two machines.
+-- Idea: a relation that every clock keeps and under which what is seen and the refusal numbers agree; R n has room for n more clocks, and
+-- a call that is not refused has room for its own.
 use Prim.Native.Nat.{ℕ, suc}
 use mathlib.Core.Path.{_≡_, refl, ap, ap₂}
 use mathlib.Core.Bool.{Bool, true, false, cond}

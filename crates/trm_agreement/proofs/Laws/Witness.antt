@@ -1,6 +1,5 @@
 -- Every list of calls from an accepted reset has an exchange: what the definitions give meets the contracts.
--- Idea: the record of the code from that of the definitions, a reference from the list that it holds.
--- Assumes nothing.
+-- Idea: the record of the code is built from that of the definitions, a reference from the list that it holds.
 --   back m    the record of the code        exchange-exists
 use Prim.Native.Nat.{ℕ}
 use mathlib.Core.Path.{_≡_, refl}
@@ -13,17 +12,17 @@ use Rattle.trm_core.specs.Record as core
 use Rattle.trm_core.specs.Record.{Lent}
 use Rattle.trm_core.specs.Refusals.{resetRefusal, clockRefusal, runRefusal}
 use Rattle.trm_core.specs.Run.{Ran}
-use Rattle.trm_engine.specs.declared.machine.Machine.{Machine}
-use Rattle.trm_engine.specs.Machine.{recordOf, lent}
+use Rattle.trm_run_machine.specs.declared.machine.Machine.{Machine}
+use Rattle.trm_run_machine.specs.Machine.{recordOf, lent}
 use Rattle.trm_calls.specs.Promises.{pins, resetGives, clockGives, runGives}
-use Rattle.trm.specs.declared.answer.ResetAnswer.{ResetAnswer}
+use Rattle.trm.specs.declared.exported_answers.ResetAnswer.{ResetAnswer}
 use Rattle.trm_agreement.specs.Calls.{Call, clockCall, runCall}
 use Rattle.trm_agreement.specs.Contracts.{ShippedReset}
 use Rattle.trm_agreement.specs.Exchange.{shipped, Returned, clockReturned, runReturned, machineLeft, storeLeft, Meets, byValue, byRun}
 use Rattle.trm_agreement.specs.Exchange.{Exchange}
 use Rattle.trm_agreement.specs.Demand.{Exists}
 
--- the record of the code from that of the definitions: nothing is left out
+-- the record of the code from that of the definitions, field by field
 unfoldable pub back : core.Machine → Machine
 back m = record {
   scalars = m .scalars;
@@ -34,7 +33,7 @@ back m = record {
   words = m .words;
 }
 
--- a reference that holds this
+-- a reference that holds this value
 unfoldable pub holding : {A : Type 0} → A → RefT A
 holding x = record { ptr = (0, 0); name = 0; now = x }
 
@@ -52,56 +51,58 @@ reset-met s = record {
 
 module _ (p : List ℕ) where
   clocked : Machine → List ℕ → ℕ → ℕ → After Lent Answer
-  clocked m s line input = clockGives p (lent m s) (pins line input)
+  clocked m s lineByte input = clockGives p (lent m s) (pins lineByte input)
 
   ran : Machine → List ℕ → List ℕ → List ℕ → List ℕ → List ℕ → Ran
-  ran m s lines inputs bytes words = runGives p (lent m s) lines inputs bytes words
+  ran m s lineBytes inputs bytes words = runGives p (lent m s) lineBytes inputs bytes words
 
-  -- what a call hands back by the definitions
+  -- what a call returns by the definitions
   reply : Machine → List ℕ → Call → Returned
-  reply m s (clockCall line input) =
-      clockReturned (clockRefusal paperGeometry p (recordOf m) s line) (back (clocked m s line input .state .machine))
-      (clocked m s line input .state .store) (clocked m s line input .out)
-  reply m s (runCall lines inputs bytes words) =
-      runReturned (runRefusal paperGeometry p (recordOf m) s lines inputs bytes words)
-      (back (ran m s lines inputs bytes words .state .machine)) (ran m s lines inputs bytes words .state .store)
-      (ran m s lines inputs bytes words .used) (ran m s lines inputs bytes words .finished) (ran m s lines inputs bytes words .bytes)
-      (ran m s lines inputs bytes words .words)
+  reply m s (clockCall lineByte input) =
+      clockReturned (clockRefusal paperGeometry p (recordOf m) s lineByte) (back (clocked m s lineByte input .state .machine))
+      (clocked m s lineByte input .state .store) (clocked m s lineByte input .out)
+  reply m s (runCall lineBytes inputs bytes words) =
+      runReturned (runRefusal paperGeometry p (recordOf m) s lineBytes inputs bytes words)
+      (back (ran m s lineBytes inputs bytes words .state .machine)) (ran m s lineBytes inputs bytes words .state .store)
+      (ran m s lineBytes inputs bytes words .used) (ran m s lineBytes inputs bytes words .finished)
+      (ran m s lineBytes inputs bytes words .bytes)
+      (ran m s lineBytes inputs bytes words .words)
 
   -- a clock call by value
   reply-met : (m : Machine) (s : List ℕ) (c : Call) → Meets p m s c (reply m s c)
   unfolding reply clocked ran back holding
-  reply-met m s (clockCall line input) = byValue line input (record {
-    machine = back (clocked m s line input .state .machine);
-    number = clockRefusal paperGeometry p (recordOf m) s line;
-    byte = clocked m s line input .out .byte;
-    word = clocked m s line input .out .word;
-    finished = clocked m s line input .out .done;
-  }) (clocked m s line input .state .store) (record {
+  reply-met m s (clockCall lineByte input) = byValue lineByte input (record {
+    machine = back (clocked m s lineByte input .state .machine);
+    number = clockRefusal paperGeometry p (recordOf m) s lineByte;
+    byte = clocked m s lineByte input .out .byte;
+    word = clocked m s lineByte input .out .word;
+    finished = clocked m s lineByte input .out .done;
+  }) (clocked m s lineByte input .state .store) (record {
     lifetimes = ([], ([], tt));
     program = holding p;
     store = holding s;
-    store′ = holding (clocked m s line input .state .store);
+    store′ = holding (clocked m s lineByte input .state .store);
     holds = (refl, refl, refl);
     ensures = record { number = refl; outcome = refl };
   })
-  reply-met m s (runCall lines inputs bytes words) = byRun lines inputs bytes words (record {
-    machine = back (ran m s lines inputs bytes words .state .machine);
-    number = runRefusal paperGeometry p (recordOf m) s lines inputs bytes words;
-    used = ran m s lines inputs bytes words .used;
-    finished = ran m s lines inputs bytes words .finished;
-  }) (ran m s lines inputs bytes words .state .store) (ran m s lines inputs bytes words .bytes) (ran m s lines inputs bytes words .words)
+  reply-met m s (runCall lineBytes inputs bytes words) = byRun lineBytes inputs bytes words (record {
+    machine = back (ran m s lineBytes inputs bytes words .state .machine);
+    number = runRefusal paperGeometry p (recordOf m) s lineBytes inputs bytes words;
+    used = ran m s lineBytes inputs bytes words .used;
+    finished = ran m s lineBytes inputs bytes words .finished;
+  }) (ran m s lineBytes inputs bytes words .state .store) (ran m s lineBytes inputs bytes words .bytes)
+      (ran m s lineBytes inputs bytes words .words)
       (record {
         lifetimes = ([], ([], ([], ([], ([], ([], tt))))));
         program = holding p;
         store = holding s;
-        store′ = holding (ran m s lines inputs bytes words .state .store);
-        lineBytes = holding lines;
+        store′ = holding (ran m s lineBytes inputs bytes words .state .store);
+        lineBytes = holding lineBytes;
         inputWords = holding inputs;
         answerBytes = holding bytes;
-        answerBytes′ = holding (ran m s lines inputs bytes words .bytes);
+        answerBytes′ = holding (ran m s lineBytes inputs bytes words .bytes);
         answerWords = holding words;
-        answerWords′ = holding (ran m s lines inputs bytes words .words);
+        answerWords′ = holding (ran m s lineBytes inputs bytes words .words);
         holds = (refl, refl, refl, refl, refl, refl, refl, refl, refl);
         ensures = record { number = refl; outcome = refl };
       })

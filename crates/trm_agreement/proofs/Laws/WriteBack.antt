@@ -1,6 +1,5 @@
--- The clocks of a write-back agree with the reference machine's: of an access's line, and of each dirty line when the cache is turned off.
--- Idea: each gives the builders of `Laws.Moves` its new lines, store and flight, by whether the burst ends.
--- Assumes nothing.
+-- The clocks of a write-back agree with those of the reference machine: of an access, and of every dirty line when the cache is turned off.
+-- Idea: each gives the laws of `Laws.Moves` its new lines, store and state in flight, by cases of whether the burst ends.
 use Prim.Native.Nat.{ℕ, suc, _+_, _-_, _*_, _%_, _<_}
 use mathlib.Core.Path.{_≡_, refl, sym, ap, _∙_}
 use mathlib.Core.Logic.{_≢_}
@@ -35,7 +34,7 @@ use Rattle.trm_agreement.proofs.Laws.Moves.{evicts-is, cached-refill, c
 
 module _ (G : Geometry) (p : List ℕ) (w : ℕ) (m : Machine) (s : List ℕ) (e : Extra) (cm : Common G m s e)
     (wq : wordAt p (m .scalars .pc) ≡ w) where
-  -- write-back of an access's line
+  -- the write-back of an access's line
   pub write-step : (n : ℕ) → kindOf w (visibleOf m) (m .scalars .size) ≡ cached → m .scalars .running .count < burst G
       → m .scalars .running .count + suc n ≡ 1 + burst G + burst G → Matches G (e .history) (cacheOf m)
       → holds (lineAt G (cacheOf m) (targetLine G w (visibleOf m) (m .scalars .size)))

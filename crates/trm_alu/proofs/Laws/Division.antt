@@ -1,9 +1,8 @@
 -- The divider's two registers: before the first step, after k steps by a shift, and from one step to the next.
--- Idea: t is the top bits of |B|; a step takes one bit more into t, and one digit more into t's quotient by A.
--- Assumes nothing.
+-- t is the top k bits of |B|; a step appends one bit to t, and one bit to the quotient of t by A.
 --   above0-pos, -true                  when A is above 0       quotient-digits   q × a + r has quotient q, remainder r
 --   magnitude, -le, -plus, -minus      |B|                     rem-is, quot-is   the registers for A above 0
---   registers-none, div-start, div-closed, div-step            both 0 for A not above 0; before, after k, one more
+--   registers-none, div-start, div-closed, div-step            both 0 for A not above 0; before, after k, one step more
 --   taken-lt                           how many bits t has
 use mathlib.Core.Path.{_≡_, refl, sym, ap, ap₂, _∙_, subst}
 use mathlib.Core.Bool.{Bool, true, false, not, cond, and-eq-true-iff}
@@ -36,7 +35,7 @@ above0-true a e =
 
 -- ---- digits
 
--- from the test of the code, which is the definition's
+-- from the test in the code, which equals the one in the definition
 pub above0-no : (t : Bool) (a : ℕ) → t ≡ above0 a → not t ≡ true → above0 a ≡ false
 above0-no t a e n = sym e ∙ not-true t n
 
@@ -46,7 +45,7 @@ above0-yes t a e n = above0-true a (sym e ∙ not-false t n)
 pub quotient-digits : (t q r a : ℕ) → t ≡ q * a + r → r < a → (t / a ≡ q) × (t % a ≡ r)
 quotient-digits t q r a e h = (ap (λ (x : ℕ). x / a) e ∙ digits-div q h, ap (λ (x : ℕ). x % a) e ∙ digits-mod q h)
 
--- t with one bit more than floor(t/2): A goes into the trial, or not
+-- t has one bit more than floor(t/2); by cases of the trial subtraction
 module _ (t a : ℕ) (ha : 0 < a) where
   digit-sum : t ≡ t / 2 / a * 2 * a + (t / 2 % a * 2 + t % 2)
   digit-sum =
@@ -129,7 +128,7 @@ taken-lt b k hb hk =
     let l : magnitude b < 2 ^ 32 = omega (arith, magnitude-le b hb) in
     shr-lt k (32 - k) (subst (λ (x : ℕ). magnitude b < 2 ^ x) s l)
 
--- step k + 1 takes in bit i = 31 − k of the magnitude; t is the magnitude down to that bit
+-- step k + 1 appends bit i = 31 − k of the magnitude; t is the magnitude down to that bit
 module _ (a b k i : ℕ) (ha : 0 < a) (ha′ : a < 2 ^ 31) (hb : b < 2 ^ 32) (hi : i + k ≡ 31) where
   t : ℕ
   t = magnitude b / 2 ^ i
@@ -141,7 +140,7 @@ module _ (a b k i : ℕ) (ha : 0 < a) (ha′ : a < 2 ^ 31) (hb : b < 2 ^ 32) (hi
   t-half-lt : t / 2 < 2 ^ k
   t-half-lt = subst (λ (x : ℕ). x < 2 ^ k) t-half (taken-lt b k hb (omega arith))
 
-  -- the quotient register: the next bit on top, then the bits that are left, then the quotient so far
+  -- the quotient register without its top bit, the next one: the remaining bits of |B|, then the quotient so far
   rest : ℕ
   rest = magnitude b % 2 ^ i * 2 ^ k + t / 2 / a
 

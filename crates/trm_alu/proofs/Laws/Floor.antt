@@ -1,6 +1,5 @@
 -- The words of DIV are those of the quotient rounded down: Q × A + R = B, and R is 0 to A − 1. So are those of MUL, by 2^32.
--- Idea: it holds of the signed quotient, by the sign; that is within 32 bits, so its word stands for it.
--- Assumes nothing.
+-- The law holds for the signed quotient, by cases of the sign; the quotient fits 32 bits, so its word represents it.
 use mathlib.Core.Path.{_≡_, refl, ap}
 use mathlib.Core.Bool.{true}
 use Prim.Native.Nat.{ℕ, zero, suc, _+_, _-_, _*_, _/_, _%_, _^_, _<_, _≤_}

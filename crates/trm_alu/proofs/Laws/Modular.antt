@@ -1,9 +1,8 @@
 -- Numbers mod a power of two: shifts to the left, and differences that wrap.
--- Idea: 2^n is 2^i × 2^j for i + j = n, so a shift by j leaves the remainder mod 2^i, j places up.
--- Assumes nothing.
---   pow-split, mul-pow-next   a power as a product       sub-wrapped   what a wrapping difference is
---   shl-mod, parts-lt         what a shift leaves, and where a number below it fits
---   shl-next                  what a shift leaves of one bit more
+-- 2^n is 2^i × 2^j for i + j = n, so a left shift by j mod 2^n is the remainder mod 2^i, shifted by j.
+--   pow-split, mul-pow-next   a power as a product       sub-wrapped   the value of a wrapping difference
+--   shl-mod, parts-lt         the value of a shift, and a bound with a number below 2^j added
+--   shl-next                  the value of a shift of one bit more
 use mathlib.Core.Path.{_≡_, sym, ap, _∙_, subst}
 use Prim.Native.Nat.{ℕ, _+_, _-_, _*_, _/_, _%_, _^_, _≤_, _<_}
 use native.Mathlib.Nat.{add-zero, add-mul, mul-assoc, mod-lt, mod-add-mod, add-mod-right, mod-eq-of-lt, mul-mod-left}
@@ -34,7 +33,7 @@ shl-next x i j n e =
     ∙ ap (λ (y : ℕ). y + x % 2 ^ i * 2 ^ j)
     (mul-assoc (x / 2 ^ i % 2) (2 ^ i) (2 ^ j) ∙ ap (λ (y : ℕ). x / 2 ^ i % 2 * y) (pow-split i j n e))
 
--- what gives y mod m when x is added to it
+-- r is the number that gives y mod m when x is added to it
 pub sub-wrapped : (m x y r : ℕ) → x ≤ m → r < m → (r + x) % m ≡ y → r ≡ (y + (m - x)) % m
 sub-wrapped m x y r hx hr e =
     let s : r + x + (m - x) ≡ r + m = omega arith in

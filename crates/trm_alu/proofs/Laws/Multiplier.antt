@@ -1,6 +1,5 @@
 -- One step of the multiplier takes the register after k steps to that after k + 1.
--- Idea: it halves the register plus 2^63 and adds 2^62; where A's bit is set, B × 2^31 more, or less in the last step.
--- Assumes nothing.
+-- On the register plus 2^63 a step halves and adds 2^62; if A's bit is set it also adds B × 2^31, or subtracts it in the last step.
 use mathlib.Core.Path.{_≡_, refl, sym, ap, ap₂, _∙_}
 use mathlib.Core.Bool.{Bool, true, false}
 use Prim.Native.Nat.{ℕ, zero, suc, _+_, _-_, _*_, _/_, _%_, _^_, _≤_, _<_}
@@ -15,7 +14,7 @@ use Rattle.trm_alu.proofs.Laws.Modular.{mul-pow-next, shl-next}
 use Rattle.trm_alu.proofs.Laws.Signed.{word-lt}
 use Rattle.trm_alu.proofs.Laws.Product.{top, partial-word, product-word, known, upper-half-is}
 
--- a bit, and a product with it
+-- a bit, and the product of x with it
 data Bit (d x : ℕ) : Type 0 where
   clear : d ≡ 0 → d * x ≡ 0 → Bit d x
   set : d ≡ 1 → d * x ≡ x → Bit d x
@@ -25,14 +24,14 @@ bit zero x h = clear refl (zero-mul x)
 bit (suc zero) x h = set refl (one-mul x)
 bit (suc (suc d)) x h = absurd (omega arith)
 
--- ---- the register plus 2^63, n, by A's bits
+-- ---- n, the register plus 2^63, by the bits of A
 
 -- the linear part, over plain numbers
 halved : (n u p q c : ℕ) → n + u * 2 ≡ p * 2 + q + c * 2 → n / 2 + u ≡ p + q / 2 + c
 halved n u p q c e = omega arith
 
 module _ (a b k : ℕ) (ha : a < 2 ^ 32) (hb : b < 2 ^ 32) (hk : k < 32) where
-  -- (A mod 2^k) × 2^(31−k), and what A's bit k makes of it
+  -- (A mod 2^k) × 2^(31−k), and the next such number by bit k of A
   half : ℕ
   half = a % 2 ^ k * 2 ^ (31 - k)
 
@@ -91,7 +90,7 @@ shifted x h = go (x / 2 ^ 63) refl
     go (suc zero) e = let m : (x + 2 ^ 63) % 2 ^ 64 + 2 ^ 63 ≡ x = omega arith in omega arith
     go (suc (suc q)) e = absurd (omega arith)
 
--- d is added to the shifted register: on the offset one, that is y
+-- adding d to the shifted register is adding y to the offset one
 added : (x d y : ℕ) → x < 2 ^ 64 → (d + 2 ^ 62) % 2 ^ 64 ≡ y
     → (shiftedRight x + d) % 2 ^ 64 ≡ ((x + 2 ^ 63) % 2 ^ 64 / 2 + y + 2 ^ 63) % 2 ^ 64
 added x d y h e =
@@ -105,7 +104,7 @@ added x d y h e =
     ∙ ap (λ (z : ℕ). (n + 2 ^ 63 + z) % 2 ^ 64) e
     ∙ ap (λ (z : ℕ). z % 2 ^ 64) t
 
--- what an addend and what its negation come to
+-- the same for an addend and for its negation
 add-offset : (d u c y : ℕ) → Bit d u → u ≡ (c + (2 ^ 64 - 2 ^ 62)) % 2 ^ 64 → c ≤ 2 ^ 63 → (d * u + 2 ^ 62) % 2 ^ 64 ≡ y
     → y + d * 2 ^ 62 ≡ d * c + 2 ^ 62
 add-offset d u c y (clear z p) e h f = omega (arith, ap (λ (x : ℕ). x * c) z)

@@ -1,7 +1,6 @@
 -- A step of the pair is a step of the divider's two registers.
--- Idea: the pair doubled is the trial above what is left of the quotient register; A goes into the trial where A in its place goes into it.
--- Assumes nothing.
---   quot-fits, rem-fits   the registers' widths        pair-step   from the pair after k steps to that after one more
+-- The doubled pair is the trial above the rest of the quotient register, so the comparison of the pair is that of the trial with A.
+--   quot-fits, rem-fits   the registers' widths        pair-step   from the pair after k steps to the pair after k + 1
 use mathlib.Core.Path.{_≡_, refl, ap, _∙_}
 use mathlib.Core.Bool.{Bool, true, false, cond}
 use Prim.Native.Nat.{ℕ, _+_, _-_, _*_, _/_, _%_, _^_, _≤_, _<_}

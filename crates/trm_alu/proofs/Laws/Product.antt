@@ -1,9 +1,8 @@
 -- The multiplier's register in closed form, as a natural: B × T + Y, and B × A, each plus 2^63.
--- Idea: T = (A mod 2^k) × 2^(32−k) and Y = floor(A/2^k) sum to less than 2^32; A's top bit takes B × 2^31 off.
--- Assumes nothing.
+-- T = (A mod 2^k) × 2^(32−k) and Y = floor(A/2^k) sum to less than 2^32; the top bit of A subtracts B × 2^31.
 --   top a k, top-fits     T, and its bound                     upper-half-is   B × 2^31 as a 64-bit word
 --   partial-word, known   the register for k below 32 from its offset number, and back
---   product-word          the register from 32 on              mul-start, mul-end   the first, the last's two words
+--   product-word          the register from 32 on              mul-start, mul-end   the first value; the words of the last
 use mathlib.Core.Path.{_≡_, refl, sym, ap, _∙_, subst}
 use mathlib.Core.Bool.{Bool, cond}
 use Prim.Native.Nat.{ℕ, suc, _+_, _-_, _*_, _/_, _%_, _^_, _≤_, _<_}
@@ -57,7 +56,7 @@ mul-start a b ha hb =
     omega (arith, t, ap (λ (x : ℕ). biased b * x) t, mul-zero (biased b), div-one a) in
     omega (arith, partial-word a b 0 ha hb (lit< tt) (a + 2 ^ 63) e)
 
--- n is B × s + 2^63 for s = A mod 2^31; where A's top bit is set, B × 2^31 comes off
+-- n is B × s + 2^63 for s = A mod 2^31; if the top bit of A is set, B × 2^31 is subtracted
 off-product : (a b n p : ℕ) → a < 2 ^ 32 → b < 2 ^ 32 → n + 2 ^ 31 * (a % 2 ^ 31) ≡ biased b * (a % 2 ^ 31) + 2 ^ 63
     → p + a / 2 ^ 31 * (biased b * 2 ^ 31) ≡ n + a / 2 ^ 31 * 2 ^ 62 → OffBy (2 ^ 63) (product a b) p
 unfolding product

@@ -1,6 +1,5 @@
 -- The signed quotient and remainder from the divider's registers after 32 steps, r and q.
--- Idea: they are |B|'s; for B = −(n + 1) those of n are wanted: q − 1 and A − 1 where r is 0, else q and r − 1.
--- Assumes nothing.
+-- q and r are those of |B|; for B = −(n + 1) the definition uses those of n: q − 1 and A − 1 if r is 0, else q and r − 1.
 use mathlib.Core.Path.{_≡_, refl, sym, ap, _∙_}
 use mathlib.Core.Bool.{true, false}
 use Prim.Native.Nat.{ℕ, zero, suc, _+_, _-_, _*_, _/_, _%_, _^_, _≤_, _<_}

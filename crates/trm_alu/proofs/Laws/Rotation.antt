@@ -1,6 +1,5 @@
--- A rotation is the | of its two parts.
--- Idea: the parts have no bit in common, so their | is their sum.
--- Assumes nothing.
+-- A rotation is the bitwise or of its two parts.
+-- The parts have no bit in common, so their bitwise or is their sum.
 use mathlib.Core.Path.{_≡_, ap, _∙_, subst}
 use Prim.Native.Nat.{ℕ, _+_, _-_, _*_, _/_, _%_, _^_, _<_}
 use native.Mathlib.Nat.{mod-one, div-one, add-comm}

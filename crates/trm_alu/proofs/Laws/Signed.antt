@@ -1,8 +1,7 @@
 -- Signed numbers as naturals: a word's signed number plus 2^31, a longer number plus its own offset.
--- Idea: `Sign` tells a word's sign with linear equations; `OffBy h z n` says that n is z + h, a sum of naturals.
--- Assumes nothing.
+-- `Sign` gives a word's sign with linear equations; `OffBy h z n` says in naturals that n is z + h.
 --   Sign, sign           a word by its sign                OffBy h z n   n is z + h, and z is from −h to h − 1
---   word-lt, off-word    a number's word: its bound, and what it is by the offset
+--   word-lt, off-word    a number's word: its bound, and its value from the offset number
 --   off-difference, off-negation, off-multiple, off-times   the offsets of y − x, −z, B × t + y, B × t
 use mathlib.Core.Path.{_≡_, refl, sym, ap, _∙_, subst}
 use mathlib.Core.Bool.{Bool, true, false}

@@ -1,6 +1,5 @@
 -- The exact sum and difference of two signed words, plus 2^32: their 32-bit results and their flags.
--- Idea: by the words' signs the offset number is a sum of naturals; carry and overflow are quotients of it by 2^32.
--- Assumes nothing.
+-- By cases of the signs the offset number is a sum of naturals; carry and overflow are quotients of it by 2^32.
 --   off-sum, off-exact-difference   the offset numbers        sum-is, difference-is   the results
 --   carry-is, overflow-is, sign-is  the flags
 use mathlib.Core.Path.{_≡_, refl, sym, ap, _∙_}

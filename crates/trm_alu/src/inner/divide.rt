@@ -1,6 +1,6 @@
 // The divider: 32 steps of shift and subtract on the dividend's magnitude, then the sign; and its closed form.
 // Paper: "With t = floor(|B|/2^(32-k)), the divider holds remainder t mod A and quotient register ..";
-// "Signed dividend negated, divided and corrected around zero and at -2^31". A step does not see B.
+// "Signed dividend negated, divided and corrected around zero and at -2^31". A step does not use B.
 ghost use mathlib.Core.Path.{_≡_};
 ghost use Prim.Native.Nat.{_<_, _≤_};
 ghost use lib.IntN.{natAbs};
@@ -52,7 +52,7 @@ pub fn start(a: u32, b: u32) -> Divider
     }
 }
 
-// One step: the pair goes left by one place, and A is taken off the remainder where it goes.
+// One step: both registers shift left by one, and A is subtracted from the remainder if it is at most that.
 pub fn step(rem: u64, quot: u64, a: u32) -> Divider
     ensures { λ r. ⌜ r ≡ divStep rem quot a ⌝ }
 {
@@ -108,7 +108,7 @@ pub fn finish(rem: u64, quot: u64, a: u32, b: u32) -> Divided
     }
 }
 
-// The registers after k steps, without the steps.
+// The registers after k steps in closed form, without the steps.
 pub fn after(a: u32, b: u32, k: u64) -> Divider
     requires { ⌜ k ≤ 32 ⌝ }
     ensures { λ r. ⌜ r ≡ dividerAt a b k ⌝ }

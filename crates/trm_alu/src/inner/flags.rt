@@ -1,6 +1,6 @@
 // N Z C V after an operation 0-10, as numbers 0 or 1.
 // Paper: "N and Z are taken from the 32-bit result of 0-10. Among 0-10, C and V change only here: .."
-// C and V of ADD and SUB are those of `sums`.
+// C and V of ADD and SUB are computed in `sums`.
 ghost use mathlib.Core.Path.{_≡_};
 ghost use Rattle.trm_alu.specs.Flags.{signFlag, zeroFlag, carryAfter, overflowAfter, flagsAfter};
 

@@ -1,18 +1,18 @@
 // The multiplier: 32 steps of add and shift on a 64-bit register, two's complement, and its closed form.
 // Paper: "After k multiplier steps, k = 1-31, the 64-bit signed register is .."
-// A step sees the register, B and whether it is the last of the 32; it does not see A.
+// A step uses the register, B and whether it is the last of the 32; it does not use A.
 ghost use mathlib.Core.Path.{_≡_};
 ghost use Prim.Native.Nat.{_+_, _*_, _^_, _<_};
 ghost use Rattle.trm_alu.specs.Multiply.{mulAfter, mulStep, upperHalf};
 
-// B at the upper half once the register is shifted: B × 2^31, in 64 bits.
+// B at the place of the upper half after the shift: B × 2^31, in 64 bits.
 fn upper_half(b: u32) -> u64
     ensures { λ r. ⌜ r ≡ upperHalf b ⌝ }
 {
     std::num::wrapping_sub_u64(super::sums::biased(b) * 0x8000_0000, 0x4000_0000_0000_0000)
 }
 
-// The product of a bit and a word. Of this `if` the compiler makes a choice without a branch; of the product it made a branch (D-60).
+// The product of a bit and a word. The compiler turns this `if` into a select without a branch, and a multiplication into a branch (D-60).
 fn bit_times(bit: u64, x: u64) -> u64
     requires { ⌜ bit < 2 ⌝ }
     ensures { λ r. ⌜ r ≡ bit * x ⌝ }
@@ -23,8 +23,8 @@ fn bit_times(bit: u64, x: u64) -> u64
     0
 }
 
-// One step: the register goes right by one place, its sign staying; where the bit that leaves is set,
-// B is added to the upper half, and taken off it in the last step.
+// One step: the register shifts right by one, arithmetically; if the bit shifted out is set,
+// B is added to the upper half, and in the last step subtracted.
 pub fn step(acc: u64, b: u32, last: bool) -> u64
     ensures { λ r. ⌜ r ≡ mulStep acc b last ⌝ }
 {
@@ -44,7 +44,7 @@ fn multiple(c: u64, t: u64, y: u64) -> u64
     (0x8000_0000_0000_0000 - 0x8000_0000 * t) + c * t + y
 }
 
-// The register after k steps, and the product from 32 on, without the steps.
+// The register after k steps, and the product from 32 on, in closed form.
 pub fn after(a: u32, b: u32, k: u64) -> u64
     ensures { λ r. ⌜ r ≡ mulAfter a b k ⌝ }
 {

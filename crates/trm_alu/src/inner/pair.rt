@@ -1,10 +1,10 @@
-// The divider's two registers side by side in one number, the remainder above: what a loop over steps holds of it.
+// The divider's two registers packed into one number, the remainder in the upper half: the state of a loop over steps.
 // Paper: "With t = floor(|B|/2^(32-k)), the divider holds remainder t mod A and quotient register ..".
-// A step is `divide::step` on the pair: it goes left by one place, and A is taken off where it goes. It does not see B.
+// A step is `divide::step` on the pair: shift left by one, and subtract A if it is at most the upper half. It does not use B.
 ghost use mathlib.Core.Path.{_≡_};
 ghost use Rattle.trm_alu.specs.Pair.{pairDivisor, pairStep};
 
-// A in the remainder's place; for A at or below 0 a number above the pair of such a divider, which is 0.
+// A at the remainder's place; for A at or below 0 the pair is 0, and this is a number above it, so that nothing is subtracted.
 pub fn divisor(a: u32) -> u64
     ensures { λ r. ⌜ r ≡ pairDivisor a ⌝ }
 {

@@ -1,6 +1,6 @@
-// The exact signed sum and difference of two words, each as a natural number: the exact one plus 2^32.
+// The exact signed sum and difference of two words, each as a natural number: the exact value plus 2^32.
 // Paper: "C is 1 when the exact signed result is negative and V is 1 when it does not fit 32 bits".
-// Carry and overflow of ADD and of SUB, each in a function of its own.
+// Then the results, carry and overflow of ADD and SUB.
 ghost use mathlib.Core.Path.{_≡_};
 ghost use Prim.Native.Nat.{_+_, _-_, _^_};
 ghost use Rattle.trm_alu.specs.Flags.{carryOfAdd, carryOfSub, overflowOfAdd, overflowOfSub};

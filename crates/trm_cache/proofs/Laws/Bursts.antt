@@ -1,6 +1,5 @@
--- Laws of the clocks of a burst: what a write-back leaves in the store and a refill in the line, word by word.
--- Idea: `Written` and `Filled` say how far a burst has come; each of its clocks moves them by one.
--- Assumes nothing.
+-- Laws about the clocks of a burst: what a write-back writes to the store and a refill to the line, word by word.
+-- `Written` and `Filled` state the progress of a burst; each of its clocks advances them by one.
 use Prim.Native.Nat.{ℕ, _+_, _-_, _*_, _%_, _≤_, _<_}
 use mathlib.Core.Path.{_≡_, refl, sym, ap, _∙_}
 use mathlib.Core.Logic.{_≢_}
@@ -18,11 +17,11 @@ use Rattle.trm_cache.specs.Cache.{Cache, Line, lineAt, holds, lineView, 
 use Rattle.trm_cache.proofs.Laws.Lines.{cleanLine, fullLine, lineWith, fillLine, Becomes}
 use Rattle.trm_cache.proofs.Laws.Cache.{LineOk, Sane, holds-yes, block-at, view-update}
 
--- the first words of the line, up to the c-th clock of its burst, are in the store
+-- the words of the line that the first c clocks of its burst write are in the store
 unfoldable pub Written : Geometry → Line → List ℕ → ℕ → Type 0
 Written G ln s c = (i : ℕ) → i + G .waits < c → getD s (ln .block * G .words + i) 0 ≡ getD (ln .words) i 0
 
--- the first words of block b, up to the c-th clock of its burst, are in the line
+-- the words of block b that the first c clocks of its burst write are in the line
 unfoldable pub Filled : Geometry → Line → List ℕ → ℕ → ℕ → Type 0
 Filled G ln s b c = (i : ℕ) → i + G .waits < c → getD s (b * G .words + i) 0 ≡ getD (ln .words) i 0
 

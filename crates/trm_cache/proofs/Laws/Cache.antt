@@ -1,6 +1,5 @@
--- Laws of the cache: memory as seen through its lines, and through a change of one line, a store and an emptying.
--- Idea: `Sane` holds each line to the store; a change of one line is judged by `view-update` and `sane-update` alone.
--- Assumes nothing.
+-- Laws about memory as seen through the cache: unchanged cache, one line changed, a store to a line, a line emptied.
+-- `Sane` relates each line to the store; `view-update` and `sane-update` cover any change of one line.
 use Prim.Native.Nat.{ℕ, _+_, _*_, _%_, _≤_, _<_}
 use mathlib.Core.Path.{_≡_, refl, sym, ap, ap₂, _∙_}
 use mathlib.Core.Logic.{_≢_}
@@ -29,7 +28,7 @@ pub record Sane (G : Geometry) (ls : Cache) (s : List ℕ) : Type 0 where
   pub wide : Wide G ls
   pub each : (l : ℕ) → l < G .lines → LineOk G s l (lineAt G ls l)
 
--- a dirty line is full, where an empty one is clean
+-- a dirty line is full if empty lines are clean
 pub dirty-full : (ln : Line) → (ln .full ≡ false → ln .dirty ≡ false) → ln .dirty ≡ true → ln .full ≡ true
 dirty-full ln clean d = go (ln .full) refl
   where
@@ -70,7 +69,7 @@ module _ (G : Geometry) (wpos : 0 < G .words) where
   unfolding blockOf
   address-is a = div-add-mod' a (G .words)
 
-  -- a clean line's words are the store's
+  -- the words of a clean line are those of the store
   pub clean-view : (s : List ℕ) (l : ℕ) (ln : Line) (a : ℕ) → LineOk G s l ln → ln .dirty ≡ false → lineView G ln s a ≡ getD s a 0
   unfolding lineView
   clean-view s l ln a ok d = go (holds ln (blockOf G a)) refl
@@ -83,7 +82,7 @@ module _ (G : Geometry) (wpos : 0 < G .words) where
   unfolding lineView
   empty-view s ln a e = rw (holds-empty ln (blockOf G a) e)
 
-  -- a change of one line and of the store behind it
+  -- memory after a change of one line and of the store
   pub view-update : (ls : Cache) (s : List ℕ) (l : ℕ) (ln : Line) (ls′ : Cache) (s′ : List ℕ) → Becomes G ls l ln ls′
       → ((a : ℕ) → lineOf G (blockOf G a) ≡ l → lineView G ln s′ a ≡ lineView G (lineAt G ls l) s a)
       → ((a : ℕ) → lineOf G (blockOf G a) ≢ l → getD s′ a 0 ≡ getD s a 0)
@@ -96,7 +95,7 @@ module _ (G : Geometry) (wpos : 0 < G .words) where
       go (yes e) = rw (e, h .here) (here a e)
       go (no n) = rw (h .there (lineOf G (blockOf G a)) n) (unfold lineView in rw (there a n))
 
-  -- one line changed, the store behind it changed at its block only
+  -- `Sane` after a change of one line and of its block of the store
   pub sane-update : (ls : Cache) (s : List ℕ) (l : ℕ) (ln : Line) (ls′ : Cache) (s′ : List ℕ) → Becomes G ls l ln ls′ → Sane G ls s
       → length s′ ≡ length s
       → LineOk G s′ l ln → ((a : ℕ) → lineOf G (blockOf G a) ≢ l → getD s′ a 0 ≡ getD s a 0) → Sane G ls′ s′
@@ -115,7 +114,7 @@ module _ (G : Geometry) (wpos : 0 < G .words) where
                 (λ e. n (sym (o .home f) ∙ sym (ap (lineOf G) (block-at _ i hi)) ∙ e)) ∙ o .agrees f d i hi;
           })
 
-  -- a clean line put in a clean line's place does not change the view
+  -- replacing a clean line by a clean line does not change the view
   pub clean-swap : (ls : Cache) (s : List ℕ) (l : ℕ) (ln : Line) (ls′ : Cache) → Becomes G ls l ln ls′ → l < G .lines → Sane G ls s
       → lineAt G ls l .dirty ≡ false → LineOk G s l ln → ln .dirty ≡ false
       → (a : ℕ) → view G ls′ s a ≡ view G ls s a
@@ -133,7 +132,7 @@ module _ (G : Geometry) (wpos : 0 < G .words) where
         agrees = λ q d i hi. clash q;
       }
 
-  -- store to a held block
+  -- a store that hits
   pub stored-ok : (s : List ℕ) (l : ℕ) (ln : Line) (i x : ℕ) → ln .full ≡ true → LineOk G s l ln → LineOk G s l (storeLine ln i x)
   stored-ok s l ln i x f ok = record {
     wide = rw (length-set (ln .words) i x) (ok .wide);

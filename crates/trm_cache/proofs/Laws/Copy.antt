@@ -1,6 +1,5 @@
--- All clocks of a burst come to one block copy.
--- Idea: after the waits and j words more the list that is written to is `paste`, a copy of j words; the others keep theirs.
--- Assumes nothing.
+-- All clocks of a burst together are one block copy.
+-- By induction on j: after the waits and j words the written list is `paste` with j words; other words are unchanged.
 use Prim.Native.Nat.{ℕ, zero, suc, _+_, _-_, _*_, _≤_, _<_}
 use mathlib.Core.Path.{_≡_, refl, sym, ap, _∙_}
 use mathlib.Core.Logic.{_≢_}
@@ -49,7 +48,7 @@ module _ (G : Geometry) (ca : Cache) (l : ℕ) (s : List ℕ) (b : ℕ) where
   fills-waits zero h = refl
   fills-waits (suc k) h = rw (lt-leb (G .waits) k h) (fills-waits k (omega arith))
 
-  -- the words of the lines after j words more
+  -- the words of the lines after j words of the refill
   moved : ℕ → List ℕ
   moved j = paste (ca .words) (l * G .words) (drop (b * G .words) s) j
 
@@ -112,7 +111,7 @@ module _ (G : Geometry) (ca : Cache) (l : ℕ) (s : List ℕ) (b : ℕ) where
       go true h = h
       go false h = h
 
--- line l is inside the array of words
+-- line l is within the array of words
 inside : (G : Geometry) (n l : ℕ) → l < G .lines → G .lines * G .words ≤ n → l * G .words + G .words ≤ n
 inside G n l h wide = let z : suc l * G .words ≤ G .lines * G .words = mul-le-mul-right (G .words) h in omega (arith, suc-mul l (G .words))
 

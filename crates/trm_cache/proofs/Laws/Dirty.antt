@@ -1,6 +1,5 @@
--- Laws of the dirty lines, of emptying, and of a copy.
--- Idea: `howMany` and `lowest` by induction on the bound; emptying line by line.
--- Assumes nothing.
+-- Laws about dirty lines, emptying all lines, and copying all of memory.
+-- `howMany` and `lowest` by induction on the bound; emptying by induction on the lines.
 use Prim.Native.Nat.{ℕ, zero, suc, _+_, _≤_, _<_}
 use mathlib.Core.Path.{_≡_, refl, sym, ap, ap₂, _∙_}
 use mathlib.Core.Logic.{_≢_}
@@ -50,7 +49,7 @@ lowest-is (suc n) f q = go (f n) refl (eqb (howMany n f) 0) refl q (lowest-is n 
     go false e true z y ih = absurd (y (let x = eqb-true (howMany n f) 0 z in omega arith))
     go b e false z y ih = let w = ih (eqb-false (howMany n f) 0 z) in (omega (arith, w .0), w .1)
 
--- one fewer where one test changes
+-- one fewer if one test becomes false
 pub howMany-less : (n : ℕ) (f g : ℕ → Bool) (j : ℕ) → j < n → f j ≡ true → g j ≡ false → ((i : ℕ) → i < n → i ≢ j → g i ≡ f i)
     → howMany n f ≡ suc (howMany n g)
 unfolding howMany
@@ -135,7 +134,7 @@ module _ (G : Geometry) (wpos : 0 < G .words) where
       l : ℕ
       l = lineOf G (blockOf G a)
 
--- a copy is the flat memory where the view is
+-- if the view is the flat memory, so is the copy
 pub length-below : (n : ℕ) (f : ℕ → ℕ) → length (below n f) ≡ n
 unfolding below
 length-below zero f = refl

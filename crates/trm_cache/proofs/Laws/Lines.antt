@@ -1,6 +1,5 @@
--- Read over write: what each setter of the record's arrays makes of each line.
--- Idea: `Becomes G ca l ln ca′` says that line l becomes ln and no other line changes; there is one such law for each setter.
--- Assumes nothing.
+-- Read over write: each line after each setter of the cache arrays.
+-- `Becomes G ca l ln ca′` says that line l becomes ln and no other line changes; there is one such law for each setter.
 use Prim.Native.Nat.{ℕ, suc, _+_, _-_, _*_, _≤_, _<_}
 use mathlib.Core.Path.{_≡_, refl, ap, _∙_}
 use mathlib.Core.Logic.{_≢_}
@@ -16,7 +15,7 @@ use native.Mathlib.Nat.{mul-le-mul-right, suc-mul, le-trans}
 use Rattle.trm_reference.specs.Geometry.{Geometry, burst}
 use Rattle.trm_cache.specs.Cache.{Cache, Line, stride, lineAt, emptied, cleaned, filled, withWord, storedTo, fillWord}
 
--- a line, changed
+-- a line after each setter
 abbrev pub emptyLine : Line → Line
 emptyLine ln = record { full = false; dirty = false; block = 0; words = ln .words }
 
@@ -35,7 +34,7 @@ storeLine ln i x = record { full = ln .full; dirty = true; block = ln .block; wo
 unfoldable pub fillLine : Geometry → Line → List ℕ → ℕ → ℕ → Line
 fillLine G ln s b c = cond (leb (G .waits) c) (lineWith ln (c - G .waits) (getD s (b * G .words + (c - G .waits)) 0)) ln
 
--- the arrays hold all lines, full and dirty being 0 or 1
+-- the arrays are long enough for all lines, and full and dirty are 0 or 1
 pub record Wide (G : Geometry) (ca : Cache) : Type 0 where
   pub full : G .lines ≤ length (ca .full)
   pub dirty : G .lines ≤ length (ca .dirty)
@@ -50,7 +49,7 @@ pub record Becomes (G : Geometry) (ca : Cache) (l : ℕ) (ln : Line) (ca′ : Ca
   pub here : lineAt G ca′ l ≡ ln
   pub there : (k : ℕ) → k ≢ l → lineAt G ca′ k ≡ lineAt G ca k
 
--- a mark set to 0 or 1
+-- an array of marks stays 0 or 1 when one is set to 0 or 1
 mark-set : (xs : List ℕ) (l k x : ℕ) → l < length xs → x < 2 → getD xs k 0 < 2 → getD (set xs l x) k 0 < 2
 mark-set xs l k x h hx hk = go (ℕ-discrete k l)
   where
@@ -59,7 +58,7 @@ mark-set xs l k x h hx hk = go (ℕ-discrete k l)
     go (no n) = rw (getD-set-other xs l k x 0 n) hk
 
 module _ (st : ℕ) (ws : List ℕ) where
-  -- the words of line l
+  -- the words of line l after one of them is set
   words-here : (l i x : ℕ) → i < st → take st (drop (l * st) (set ws (l * st + i) x)) ≡ set (take st (drop (l * st) ws)) i x
   words-here l i x h = ap (take st) (drop-set-add (l * st) ws i x) ∙ take-set-lt st (drop (l * st) ws) i x h
 
@@ -180,7 +179,7 @@ module _ (G : Geometry) (ca : Cache) (l : ℕ) (wd : Wide G ca) (lin : l < G .li
       go true e = becomes-with (c - G .waits) x (omega (arith, leb-true (G .waits) c e))
       go false e = becomes-same
 
--- one after the other
+-- two changes of the same line
 pub becomes-then : (G : Geometry) (ca ca′ ca″ : Cache) (l : ℕ) (x y : Line) → Becomes G ca l x ca′ → Becomes G ca′ l y ca″
     → Becomes G ca l y ca″
 becomes-then G ca ca′ ca″ l x y a b = record { wide = b .wide; here = b .here; there = λ k n. b .there k n ∙ a .there k n }

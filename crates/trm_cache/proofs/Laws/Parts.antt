@@ -1,6 +1,5 @@
--- A store to a lent part, said of the whole list, and a read of a part; the loops over the lines.
--- Idea: a list is its beginning, the part and its rest; the loops' invariants are the definitions at the line reached.
--- Assumes nothing.
+-- A write to a slice as a write to the whole list, a read from a slice, and the invariants of the loops over the lines.
+-- A list is what is before the slice, the slice and the rest; an invariant is the definition up to line i.
 --   part-set, part-get    Counting, counting-none, counting-more, counting-end    empty-none, empty-more, empty-end
 use Prim.Native.Nat.{ℕ, _+_, _*_, _≤_, _<_}
 use mathlib.Core.Path.{_≡_, refl, ap, sym, _∙_}
@@ -33,7 +32,7 @@ module _ (l : List ℕ) (b n k : ℕ) (fits : b + n ≤ length l) (low : k < n) 
 abbrev pub dirtyIn : Cache → ℕ → Bool
 dirtyIn ca l = lineAt paperGeometry ca l .dirty
 
--- the first i lines, counted
+-- invariant of `dirty_lines`: count and first are those of the first i lines
 pub record Counting (ca : Cache) (i count first : ℕ) : Type 0 where
   pub below : i ≤ 16
   pub few : count ≤ i

@@ -1,6 +1,5 @@
 -- Every row of the table of single steps holds.
--- Idea: one test computes all rows, and a test that computes to true gives the equations.
--- Assumes nothing.
+-- One Bool test computes all rows; that it is true gives the equation of each row.
 use mathlib.Core.Path.{refl}
 use Rattle.trm_laws.proofs.Table.{same, test, test-true}
 use Rattle.trm_reference.specs.Geometry.{blockOf, lineOf}

@@ -1,13 +1,13 @@
-// One clock of a write-back and of a refill, `k` clocks of it done: two waits, then the block's words in rising order.
+// One clock of a write-back or refill, `k` clocks of which are done: two waits, then the block's words in rising order.
 // Paper: "Each ten is two waits and eight words in rising order".
-// The block is lent as a part of the store that starts in its middle; the leaves take a part of any length.
+// `put_in_block` and `word_in_block` borrow the block as a slice of the store; `put_word` and `word_of` take a slice of any length.
 ghost use mathlib.Core.Path.{_≡_};
 ghost use Prim.Native.Nat.{_+_, _*_, _≤_, _<_};
 ghost use lib.ListN.{length, getD, set};
 ghost use Rattle.trm_reference.specs.Geometry.{paperGeometry};
 ghost use Rattle.trm_cache.specs.Cache.{cache, lineAt, writeWord, fillWord};
 
-// A word of the block that is lent.
+// Word k of the borrowed block.
 fn put_word(part: &mut [u32], k: usize, x: u32)
     requires { ⌜ k < length (now part) ⌝ }
     ensures { λ _. ⌜ now (part .exit) ≡ set (now (part .entry)) k x ⌝ }
@@ -22,7 +22,7 @@ fn word_of(part: &[u32], k: usize) -> u32
     part[k]
 }
 
-// Word k of the block b of n words.
+// Word k of block b; a block has n words.
 fn put_in_block(store: &mut [u32], b: usize, n: usize, k: usize, x: u32)
     requires { ⌜ (k < n) × (n ≤ 64) × (b < 65536) × (b * n + n ≤ length (now store)) ⌝ }
     ensures { λ _. ⌜ now (store .exit) ≡ set (now (store .entry)) (b * n + k) x ⌝ }
@@ -61,7 +61,7 @@ pub fn write_word(
         return;
     }
     let j = (k - 2) as usize;
-    let b = super::lines::line_block(full, dirty, block, words, l) as usize;
+    let b = super::cache_lines::line_block(full, dirty, block, words, l) as usize;
     put_in_block(store, b, 8, j, words[l * 8 + j]);
 }
 

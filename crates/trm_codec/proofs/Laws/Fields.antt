@@ -1,6 +1,5 @@
 -- Laws of instructions as plain numbers: the instruction of a form, and what decode and encode give.
--- By the form's number in the list of forms, and by the one test of decode.
--- Assumes nothing.
+-- By the number of the form in the list of forms, and by the one test of decode.
 use mathlib.Core.Path.{_≡_, sym, ap, _∙_}
 use mathlib.Core.Bool.{Bool, true, false, cond, _&&_}
 use Prim.Native.Nat.{ℕ, _≤_}
@@ -13,20 +12,20 @@ use Rattle.trm_codec.specs.declared.instruction.Decoded.the-variants as 
 use Rattle.trm_codec.specs.Decode.{instructionOf, decodeOf}
 use Rattle.trm_codec.specs.Encode.{fits, placed}
 use Rattle.trm_codec.specs.Refusals.{wordRefusal, instructionRefusal}
-use Rattle.trm_codec.specs.declared.fields.Fields.{Fields}
+use Rattle.trm_codec.specs.declared.plain_fields.Fields.{Fields}
 use Rattle.trm_codec.specs.Fields.{plainFields, fieldsOf, forms, instructionAt, sameFields, fieldsFit}
 use Rattle.trm_codec.specs.Plain.{fieldsGiven, fieldsRefusal, wordGiven}
 use Rattle.trm_codec.specs.Promises.{DecodesPlain, EncodesPlain}
 
--- the instruction of a form that is known
+-- the instruction of a form whose number is known
 pub at-form : (f : Fields) {k : ℕ} → f .form ≡ k → getD (forms f) k (Call (f .value)) ≡ instructionAt f
 at-form f e = sym (ap (λ k. getD (forms f) k (Call (f .value))) e)
 
--- past the list it is a call
+-- a form of 10 or more is a call
 pub past-forms : (f : Fields) → 10 ≤ f .form → Call (f .value) ≡ instructionAt f
 past-forms f h = sym (List·getD-eq-default (forms f) (Call (f .value)) h)
 
--- the instruction of an answer, or another where there is none
+-- the instruction of an answer, and j if it was refused
 held : Instruction → Decoded → Instruction
 held j (D.Instruction i) = i
 held j D.Refused = j
@@ -48,7 +47,7 @@ pub not-decoded : (w : ℕ) → wordRefusal w ≡ 3 → DecodesPlain w (record {
 unfolding fieldsGiven
 not-decoded w z = record { number = sym z; fields = rw z }
 
--- the refusal and the word, over whether the fields are the instruction's
+-- the refusal and the word, given whether the fields are those of i
 abbrev refusalOf : Instruction → Bool → ℕ
 refusalOf i ok = cond (ok && fits i) 0 10
 

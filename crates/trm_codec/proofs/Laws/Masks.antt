@@ -1,6 +1,5 @@
--- A word under a mask, where the mask is made of ranges of bits: each range gives its own number, at its place.
--- One law takes off the highest range; each form's mask is two to four ranges, and they are its fields.
--- Assumes nothing.
+-- A word under a mask of bit ranges: the sum of the ranges, each at its place.
+-- One law splits off the highest range; the mask of each form has two to four ranges, which are its fields.
 use mathlib.Core.Path.{_≡_, sym, ap, _∙_}
 use Prim.Native.Nat.{ℕ, _+_, _-_, _*_, _/_, _%_, _^_, _<_}
 use native.Mathlib.Nat.{mod-lt, zero-mul, zero-add}
@@ -26,7 +25,7 @@ below w j s h =
     ∙ ap (λ (x : ℕ). x * 2 ^ j + bitAnd (w % 2 ^ j) s) (and-zero-r (w / 2 ^ j))
     ∙ none-and (2 ^ j) (bitAnd (w % 2 ^ j) s)
 
--- a range of i bits from bit j on, and what is under the rest of the mask
+-- a range of i bits from bit j up, and the bits under the rest of the mask
 also : (w i j s : ℕ) {x : ℕ} → s < 2 ^ j → bitAnd w s ≡ x
     → bitAnd w ((2 ^ i - 1) * 2 ^ j + s) ≡ w / 2 ^ j % 2 ^ i * 2 ^ j + x
 also w i j s h e =

@@ -1,6 +1,5 @@
--- The answers of decode and encode have the paper's numbers and values.
+-- The answers of decode and encode have the numbers and values of the paper.
 -- By the one test of each: a word above 3FFFFH, an instruction with a field outside its width.
--- Assumes nothing.
 use mathlib.Core.Path.{_≡_, refl, sym, ap, _∙_}
 use mathlib.Core.Bool.{Bool, true, false, cond}
 use Prim.Native.Nat.{ℕ}
@@ -54,7 +53,7 @@ encode-value i = go (fits i)
     go true = refl
     go false = refl
 
--- an answer that is the definition's keeps the whole promise
+-- an answer equal to the definition's meets the whole contract
 pub decodes : (w : ℕ) (r : Decoded) → r ≡ decodeOf w → Decodes w r
 decodes w r e =
     record { answer = e; number = ap decodeNumber e ∙ decode-number w; value = ap decodeValue e ∙ decode-value w }

@@ -1,6 +1,5 @@
 -- Numbers and operations are inverse.
--- By cases on the eleven of them.
--- Assumes nothing.
+-- By the eleven cases.
 use mathlib.Core.Path.{_≡_, refl}
 use Prim.Native.Nat.{ℕ, zero, suc, _<_}
 use native.Mathlib.Omega.{arith}

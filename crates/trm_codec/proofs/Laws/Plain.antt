@@ -1,13 +1,12 @@
--- Instructions as plain numbers and words are inverse.
--- Fields that fit are those of their instruction, and an instruction is that of its fields; the rest is encode and decode.
--- Assumes nothing.
+-- Decode and encode on plain numbers are inverse.
+-- Fields that fit are those of their instruction, and conversely; the rest follows from the inverses of decode and encode.
 use mathlib.Core.Path.{_≡_, refl, sym, ap, _∙_, subst}
 use mathlib.Core.Bool.{Bool, true, false, cond, _&&_, and-eq-true-iff}
 use Prim.Native.Nat.{ℕ, _^_, _<_}
 use native.Mathlib.Omega.{arith}
 use lib.Dec.{eqb}
 use borrow.Author.Tests.{eqb-true, eq-eqb}
-use Rattle.trm_codec.specs.declared.fields.Fields.{Fields}
+use Rattle.trm_codec.specs.declared.plain_fields.Fields.{Fields}
 use Rattle.trm_codec.specs.declared.instruction.Operand.the-variants.{Register, Literal}
 use Rattle.trm_codec.specs.declared.instruction.Instruction.{Instruction}
 use Rattle.trm_codec.specs.declared.instruction.Instruction.the-variants.{Arithmetic, MoveHigh, SetStatus, Jump, JumpAndLink}
@@ -28,7 +27,7 @@ use Rattle.trm_codec.proofs.Laws.Fields.{decoded-is}
 use Rattle.trm_codec.proofs.Laws.Recode.{decode-encode}
 use Rattle.trm_codec.proofs.Laws.RoundTrip.{passed, encode-decode}
 
--- an instruction is that of its fields
+-- the instruction of the fields of i is i
 of-fields : (i : Instruction) → instructionAt (fieldsOf i) ≡ i
 of-fields (Arithmetic o d (Register s)) = ap (λ x. Arithmetic x d (Register s)) (at-number o)
 of-fields (Arithmetic o d (Literal n)) = ap (λ x. Arithmetic x d (Literal n)) (at-number o)
@@ -42,7 +41,7 @@ of-fields (Store d s offset) = refl
 of-fields (Branch condition offset) = refl
 of-fields (Call offset) = refl
 
--- fields that are the same are equal, and are the same as themselves
+-- `sameFields` is equality
 same-is : (f g : Fields) → sameFields f g ≡ true → f ≡ g
 same-is f g e =
     let a = and-eq-true-iff _ _ .0 e in

@@ -1,6 +1,5 @@
 -- A word below 2^18, decoded and encoded, is the word with its unused bits zero.
--- By the form of the word: its fields fit, and placed they are the word under its form's mask.
--- Assumes nothing.
+-- By cases of the form: the fields fit, and placed at their bits they are the word under the mask of the form.
 use mathlib.Core.Path.{_≡_, refl, sym, _∙_}
 use mathlib.Core.Bool.{and-eq-true-iff, Bool, true, false, _&&_}
 use Prim.Native.Nat.{ℕ, zero, suc, _+_, _-_, _*_, _/_, _%_, _^_, _<_, _≤_}
@@ -29,7 +28,7 @@ encoded-as i v f e = rw (f, e)
 inside : (x k : ℕ) → 0 < k → ltb (x % k) k ≡ true
 inside x k h = lt-ltb (x % k) k (mod-lt x h)
 
--- the fields as the encoder adds them and as the mask gives them; t, u and f are bits or forms that the case fixes
+-- the sum of the fields as the encoder computes it equals the sum that the mask gives; the case fixes the bits t, u and the form f
 add-high : (o d t u : ℕ) → o ≡ 0 → t ≡ 1 → u ≡ 1 → d * 2048 + 1032 ≡ o * 16384 + (d * 2048 + (t * 1024 + (u * 8 + 0)))
 add-high o d t u e f g = omega arith
 
@@ -123,7 +122,7 @@ module _ (w : ℕ) where
   memory-fits : (ltb (destination w) 8 && (ltb (source w) 8 && ltb (w / 8 % 256) 256)) ≡ true
   memory-fits = rw (d-fits, s-fits, inside (w / 8) 256 (lit< tt))
 
-  -- 11 to 15, by how far the operation is above 11
+  -- operations 11 to 15; k is the operation minus 11
   other-recodes : (k : ℕ) → operation w ≡ k + 11
       → encodeOf (getD (otherForms w) k (Call (callOffset w))) ≡ E.Word (bitAnd w (getD (usedOthers w) k 0x3CFFF))
   other-recodes zero o = control-recodes o

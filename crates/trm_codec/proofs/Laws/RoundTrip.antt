@@ -1,6 +1,5 @@
 -- An instruction that encodes decodes to itself.
--- By the form of the instruction: its tests passed, so each field of the word is the field that was placed there.
--- Assumes nothing.
+-- By cases of the form: the fields fit, so each field of the word is the one that was placed there.
 use mathlib.Core.Path.{_≡_, refl, ap, _∙_}
 use mathlib.Core.Bool.{and-false, and-eq-true-iff, Bool, true, false}
 use Prim.Native.Nat.{ℕ, _+_, _*_, _/_, _%_, _<_, _≤_}
@@ -22,12 +21,12 @@ use Rattle.trm_codec.specs.Decode.{arithmeticOf, controlOf, instructionO
 use Rattle.trm_codec.specs.Encode.{encodedAs, encodeOf}
 use Rattle.trm_codec.proofs.Laws.Operations.{at-number, number-lt}
 
--- a word was given, so the test held
+-- if encode gave a word, its test was true
 pub passed : (ok : Bool) (v w : ℕ) → encodedAs ok v ≡ E.Word w → (ok ≡ true) × (w ≡ v)
 passed true v w h = (refl, cc)
 passed false v w h = let z : _≡_ {A = ℕ} 0 1 = cc in absurd (omega arith)
 
--- a field below n at the place k, and the lowest field
+-- a field x below n, shifted up by k; and the lowest field
 at : (q x k n r w : ℕ) → w ≡ (q * n + x) * k + r → x < n → r < k → w / k % n ≡ x
 at q x k n r w e hx hr = ap (λ (y : ℕ). y / k % n) e ∙ ap (λ (y : ℕ). y % n) (digits-div (q * n + x) hr) ∙ digits-mod q hx
 
@@ -68,7 +67,7 @@ high-form d w hd e =
     let eh : bit 3 w ≡ 1 = at (d * 128 + 64) 1 8 2 0 w (omega arith) (lit< tt) (lit< tt) in
     rw (eo, ed, et, eh)
 
--- 11, by bits 10 and 9–8: f is those two and s the rest
+-- operation 11, by bit 10 and bits 9–8
 status-form : (x w : ℕ) → x < 16 → w ≡ 180224 + x → instructionOf w ≡ SetStatus x
 unfolding instructionOf controlOf
 status-form x w hx e =
@@ -105,7 +104,7 @@ return-form s w hs e =
     let es : source w ≡ s = lowest 22688 s 8 w (omega arith) hs in
     rw (eo, et, ef, es)
 
--- LD and ST alike: the fields of operation c
+-- the fields of LD and ST; c is the operation
 pub record MemoryFields (c d s x w : ℕ) : Type 0 where
   pub op : operation w ≡ c
   pub d-is : destination w ≡ d

@@ -1,6 +1,5 @@
--- A clock that reads no device does not hear the input word; one that carries nothing out changes nothing that is seen.
--- Idea: the input word enters a clock only where an LD from a device is carried out.
--- Assumes nothing.
+-- A clock that reads no device does not depend on the input word; one that executes no word changes nothing that a programmer sees.
+-- The input word is used only where an LD from a device is executed.
 use Prim.Native.Nat.{ℕ, _+_, _*_}
 use mathlib.Core.Path.{_≡_, refl, ap}
 use mathlib.Core.Bool.{Bool, true, false, cond, not, _&&_, _||_}
@@ -28,7 +27,7 @@ use Rattle.trm_core.specs.Clock.{Moved, moved, hits, missing, firstClock
 use Rattle.trm_core.specs.Clock.{finish, cacheAfter, storeAfter, advance, quiet, worked, unheld, heldClock, clockOf}
 use Rattle.trm_core.specs.Claims.{acknowledges, Deaf, ClocksAreThree, HeldWaits, SeenChangesLast}
 
--- only LD asks what is loaded
+-- only LD uses the loaded word
 execute-blind : (w : ℕ) (v : Visible) (x y : ℕ) → isLoad w ≡ false → execute w v x ≡ execute w v y
 unfolding execute isLoad
 execute-blind w v x y e = rw e
@@ -38,7 +37,7 @@ pub load-only : (w : ℕ) → isLoad w ≡ true → isStore w ≡ false
 unfolding isLoad isStore
 load-only w e = ne-eqb (operation w) 13 (let z = eqb-true (operation w) 12 e in omega arith)
 
--- the word that is loaded and the answer, by the input word
+-- without a device read the last clock does not depend on the input word
 finish-deaf : (G : Geometry) (w n : ℕ) (m : Machine) (s : List ℕ) (i j : ℕ) → bit 0 (answerOf w (visibleOf m) n i .byte) ≡ 0
     → finish G w n m s i ≡ finish G w n m s j
 unfolding finish loaded answerOf deviceAnswer toDevice isAccess
@@ -70,8 +69,8 @@ finish-deaf G w n m s i j = go (isMemory (placeOfWord w (visibleOf m) n)) (isLoa
 
 pub deaf : Deaf
 unfolding clockOf unheld worked heldClock
-deaf G p x line i j = go (stalled line)
-    (eqb (x .machine .scalars .running .phase) 0 && not (eqb (interruptChosen (x .machine .scalars .status) line) 0))
+deaf G p x lineByte i j = go (stalled lineByte)
+    (eqb (x .machine .scalars .running .phase) 0 && not (eqb (interruptChosen (x .machine .scalars .status) lineByte) 0))
     (isLast G w n (x .machine .scalars .running) (visibleOf (x .machine)) (cacheOf (x .machine)))
   where
     w : ℕ
@@ -82,7 +81,8 @@ deaf G p x line i j = go (stalled line)
 
     clock : Bool → Bool → Bool → ℕ → After Lent Answer
     clock st ack end k = cond st (heldClock (x .machine) (x .store))
-        (cond ack (carried (x .machine .scalars) (interrupted (visibleOf (x .machine)) (interruptChosen (x .machine .scalars .status) line))
+        (cond ack
+        (carried (x .machine .scalars) (interrupted (visibleOf (x .machine)) (interruptChosen (x .machine .scalars .status) lineByte))
         (cacheOf (x .machine)) (x .store) (silent 0))
         (cond end (finish G w n (x .machine) (x .store) k)
         (quiet (x .machine .regs) (advance G w n (x .machine .scalars) (visibleOf (x .machine)) (cacheOf (x .machine)) (x .store)))))
@@ -114,7 +114,7 @@ held-waits G p x pins st =
       answer = refl;
     })
 
--- an answer is 1 where a word was carried out
+-- `done` is 1 in the answer of an executed word
 pub answer-done : (w : ℕ) (v : Visible) (n i : ℕ) → answerOf w v n i .done ≡ 1
 unfolding answerOf deviceAnswer
 answer-done w v n i = chosen done (toDevice w v n) (chosen done (isStore w) refl refl) refl
@@ -122,7 +122,7 @@ answer-done w v n i = chosen done (toDevice w v n) (chosen done (isStore w) refl
     done : Answer → Type 0
     done a = a .done ≡ 1
 
--- a clock that goes on leaves what is seen: through every test of its definition
+-- a clock that executes no word does not change the visible state: by every case of its definition
 record Leaves (c : Scalars) (t : Moved) : Type 0 where
   leaves : (rs : List ℕ) → gathered (t .scalars) rs ≡ gathered c rs
 
@@ -154,7 +154,7 @@ module _ (G : Geometry) where
       (chosen (Leaves c) (eqb (c .running .phase) 3)
       (leaves-filling (targetBlock G w v n) (targetLine G w v n) (c .running .count) c ca s) (leaves-moved c _ _ _ 0 0))))
 
--- an outcome that shows nothing
+-- an outcome with the same visible state and an empty answer
 record Nothing (x : Lent) (t : After Lent Answer) : Type 0 where
   visible : visibleOf (t .state .machine) ≡ visibleOf (x .machine)
   answer : t .out ≡ silent 0
@@ -172,7 +172,7 @@ seen-changes-last G p x pins d n = record { visible = u .visible; answer = u .an
     clock : Bool → Bool → Bool → After Lent Answer
     clock st ack end = cond st (heldClock (x .machine) (x .store))
         (cond ack (carried (x .machine .scalars)
-        (interrupted (visibleOf (x .machine)) (interruptChosen (x .machine .scalars .status) (pins .line)))
+        (interrupted (visibleOf (x .machine)) (interruptChosen (x .machine .scalars .status) (pins .lineByte)))
         (cacheOf (x .machine)) (x .store) (silent 0))
         (cond end (finish G w k (x .machine) (x .store) (pins .input))
         (quiet (x .machine .regs) (advance G w k (x .machine .scalars) (visibleOf (x .machine)) (cacheOf (x .machine)) (x .store)))))
@@ -190,9 +190,9 @@ seen-changes-last G p x pins d n = record { visible = u .visible; answer = u .an
           (x .machine .regs);
     }
 
-    u : Nothing x (clock (stalled (pins .line))
-        (eqb (x .machine .scalars .running .phase) 0 && not (eqb (interruptChosen (x .machine .scalars .status) (pins .line)) 0))
+    u : Nothing x (clock (stalled (pins .lineByte))
+        (eqb (x .machine .scalars .running .phase) 0 && not (eqb (interruptChosen (x .machine .scalars .status) (pins .lineByte)) 0))
         (isLast G w k (x .machine .scalars .running) (visibleOf (x .machine)) (cacheOf (x .machine))))
-    u = go (stalled (pins .line))
-        (eqb (x .machine .scalars .running .phase) 0 && not (eqb (interruptChosen (x .machine .scalars .status) (pins .line)) 0))
+    u = go (stalled (pins .lineByte))
+        (eqb (x .machine .scalars .running .phase) 0 && not (eqb (interruptChosen (x .machine .scalars .status) (pins .lineByte)) 0))
         (isLast G w k (x .machine .scalars .running) (visibleOf (x .machine)) (cacheOf (x .machine))) d n

@@ -1,7 +1,6 @@
--- What a geometry and a legal store length give: no line, word or store is empty, and every access lies inside.
--- Idea: what holds of each entry of a table, or of each number below one, holds of its members; each such test is computed once.
--- Assumes nothing.
---   fit   the figures        target-in, block-in, line-in   the word, block and line of an access        member, below-all   tables
+-- What an accepted geometry and a legal store length imply: no line, word or store is empty, and every access is within bounds.
+-- A test that holds for every entry of a table holds for its members; each such test is computed once.
+--   fit   the bounds        target-in, block-in, line-in   the word, block and line of an access        member, below-all   tables
 use Prim.Native.Nat.{ℕ, zero, suc, _+_, _-_, _*_, _/_, _%_, _≤_, _<_}
 use mathlib.Core.Path.{_≡_, refl}
 use mathlib.Core.Bool.{Bool, true, false, cond, _&&_, _||_}
@@ -19,7 +18,7 @@ use Rattle.trm_reference.specs.Visible.{Visible}
 use Rattle.trm_reference.specs.Access.{addressOf, placeOfWord, memoryIndex, target, targetBlock, targetLine}
 use Rattle.trm_core.specs.Rule.{allBelow}
 
--- the numbers below k
+-- a test of every number below k
 pub all-below : (k : ℕ) (f : ℕ → Bool) → ((i : ℕ) → i < k → f i ≡ true) → allBelow k f ≡ true
 unfolding allBelow
 all-below zero f h = refl
@@ -34,7 +33,7 @@ below-all (suc k) f t i h = go (ℕ-discrete i k) (λ t. below-all k f t i) t
     go (yes e) ih = both (allBelow k f) (f k) (λ p q. rw e q)
     go (no n) ih = both (allBelow k f) (f k) (λ p q. ih p (omega arith))
 
--- the entries of a table
+-- a test of every entry of a table
 every : (ℕ → Bool) → List ℕ → Bool
 every f [] = true
 every f (k ∷ ks) = f k && every f ks
@@ -84,7 +83,7 @@ fit G n g f = all3 (oneOf (G .lines) lineCounts) (oneOf (G .words) wordCounts) (
         let times : suc (a / G .words) * G .words ≤ n / G .words * G .words = mul-le-mul-right (G .words) small in
         omega arith
 
--- what a word accesses
+-- the word, block and line that a word accesses are within bounds
 pub target-in : (w : ℕ) (v : Visible) (n : ℕ) → 0 < n → target w v n < n
 unfolding target placeOfWord memoryIndex
 target-in w v n h = go (ltb (addressOf w v) 0xFFC0)

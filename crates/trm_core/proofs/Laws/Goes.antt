@@ -1,7 +1,6 @@
--- The clocks that do not carry the word out, by what they do to the cache: one law for each.
--- Idea: `Goes` says of such a clock what it leaves, that this is valid and that one clock fewer is to come.
--- Assumes nothing.
---   write-goes, clear-goes   a write-back        fill-goes   a refill        miss-goes   the looking clock of a miss        stays   others
+-- The clocks that do not execute the word, by what they do to the cache: one law for each.
+-- `Goes` says what such a clock leaves, that this is valid, and that one clock fewer is left.
+--   write-goes, clear-goes   a write-back        fill-goes   a refill        miss-goes   the tag-check clock        stays   others
 use Prim.Native.Nat.{ℕ, suc, _+_, _-_, _*_, _≤_, _<_}
 use mathlib.Core.Path.{_≡_, refl, ap, _∙_}
 use mathlib.Core.Logic.{_≢_}
@@ -54,7 +53,7 @@ empty-fits G on n l ln = record {
   emptyZero = λ _. refl;
 }
 
--- a clock that does not carry the word out: what it leaves, valid, with one clock fewer to come than `old`
+-- a clock that does not execute the word: its result, valid, with one clock fewer left than `old`
 pub record Goes (G : Geometry) (w n : ℕ) (v : Visible) (c : Scalars) (old : ℕ) (t : Moved) : Type 0 where
   pub running : Running
   pub cache : Cache
@@ -72,7 +71,7 @@ pub record Goes (G : Geometry) (w n : ℕ) (v : Visible) (c : Scalars) (old : �
 
 module _ (G : Geometry) (w n : ℕ) (v : Visible) (ok : Fit G n) (c : Scalars) (ca : Cache) (s : List ℕ) (wd : Wide G ca)
     (ls : Lines G n v ca) (len : length s ≡ n) where
-  -- another phase, and the same cache and store
+  -- another phase, with cache and store unchanged
   pub stays : (old : ℕ) (r : Running) → Phase G w n (kindOf w v n) r v ca → Registers w r v → leftOf G w n r v ca + 1 ≡ old
       → Goes G w n v c old (moved c r ca s 0 0)
   stays old r ph rg lo = record {
@@ -91,7 +90,7 @@ module _ (G : Geometry) (w n : ℕ) (v : Visible) (ok : Fit G n) (c : Scalars) (
     lower = lo;
   }
 
-  -- a line changes
+  -- one line changes
   changes : (old : ℕ) (r : Running) (l : ℕ) (ln : Line) (ca′ : Cache) (s′ : List ℕ) (a b : ℕ) → a + b ≤ 1 → length s′ ≡ n
       → Becomes G ca l ln ca′ → LineFits G (cacheOn v) n l ln → Phase G w n (kindOf w v n) r v ca′ → Registers w r v
       → leftOf G w n r v ca′ + 1 ≡ old → Goes G w n v c old (moved c r ca′ s′ a b)
@@ -240,7 +239,7 @@ module _ (G : Geometry) (w n : ℕ) (v : Visible) (ok : Fit G n) (c : Scalars) (
       still : fillLine G ln s b k .full ≡ false
       still = fill-full G (ok .wpos) ln s b k ∙ empty
 
-  -- the looking clock of a miss
+  -- the tag-check clock of a miss
   pub miss-goes : (old : ℕ) → kindOf w v n ≡ cached → hits G w n v ca ≡ false → missCharge G (lineFor G w n v ca .dirty) ≡ old
       → Goes G w n v c old (missing G (targetLine G w v n) c ca s)
   unfolding missing lineFor missCharge

@@ -1,6 +1,5 @@
 -- An accepted record stays accepted after every accepted clock.
--- Idea: a clock is held, takes an interrupt, carries the word out or goes on; each leaves a valid record, the last by `Laws.Table`.
--- Assumes nothing.
+-- By cases: a clock is held, takes an interrupt, executes the word or does not (`goes-on`); each leaves a valid record.
 use Prim.Native.Nat.{ℕ, _+_, _%_, _≤_, _<_}
 use mathlib.Core.Path.{_≡_, refl, sym, ap, _∙_, subst}
 use mathlib.Core.Logic.{_≢_}
@@ -25,7 +24,7 @@ use Rattle.trm_reference.proofs.Laws.Execute.{interrupted-regs}
 use Rattle.trm_core.specs.declared.record.Running.{Running}
 use Rattle.trm_core.specs.Record.{Machine}
 use Rattle.trm_cache.specs.Cache.{Cache, Line, lineAt, view, storedTo, allEmptied}
-use Rattle.trm_core.specs.Record.{Lent, visibleOf, cacheOf}
+use Rattle.trm_core.specs.Record.{Lent, visibleOf, cacheOf, countsOf}
 use Rattle.trm_core.specs.Clock.{Moved, moved, quiet, carried, lineFor, hits, isLast, cacheAfter, storeAfter, finish, advance}
 use Rattle.trm_core.specs.Clock.{heldClock, clockOf}
 use Rattle.trm_core.specs.Rule.{dueOk}
@@ -66,7 +65,7 @@ record Held (G : Geometry) (n : ℕ) (v : Visible) (ca : Cache) : Type 0 where
   wide : Wide G ca
   lines : Lines G n v ca
 
--- the same lines with another state seen, the cache still on
+-- the same lines with another visible state that leaves the cache on
 lines-shown : (G : Geometry) (n : ℕ) (v v′ : Visible) (ca : Cache) → (cacheOn v ≡ true → cacheOn v′ ≡ true) → Lines G n v ca
     → Lines G n v′ ca
 lines-shown G n v v′ ca on ls l h = let o = ls l h in
@@ -74,7 +73,13 @@ lines-shown G n v v′ ca on ls l h = let o = ls l h in
 
 module _ (G : Geometry) (p : List ℕ) (n : ℕ) (m : Machine) (s : List ℕ) (size : n ≡ m .scalars .size)
     (room : m .scalars .counts .clocks + 1 ≤ 4294967295) (ok : CountsFit (m .scalars .counts)) where
-  -- a clock that carries a word out or takes an interrupt
+  -- the counts after a clock: each grows by at most one
+  grown : (held refills writebacks : ℕ) → let k = m .scalars .counts in held ≤ k .held + 1 → refills ≤ k .refills + 1
+      → writebacks ≤ k .writebacks + 1 → CountsFit (countsOf (k .clocks + 1) held refills writebacks)
+  grown held refills writebacks a b c = let x = ok .held in let y = ok .refills in let z = ok .writebacks in
+      record { clocks = omega arith; held = omega arith; refills = omega arith; writebacks = omega arith }
+
+  -- a clock that executes a word or takes an interrupt
   ended-good : (v : Visible) (ca : Cache) (s′ : List ℕ) (a : Answer) → Narrow v → Held G n v ca → length s′ ≡ n → 16 ≤ length (v .regs)
       → Good G p n (carried (m .scalars) v ca s′ a .state)
   ended-good v ca s′ a nr he len rg = record {
@@ -87,16 +92,11 @@ module _ (G : Geometry) (p : List ℕ) (n : ℕ) (m : Machine) (s : List ℕ) (s
       lines = he .lines;
       phase = ready refl refl;
       registers = record { product = refl; remainder = refl; quotient = refl };
-      counts = record {
-        clocks = omega arith;
-        held = let h = ok .held in omega arith;
-        refills = let h = ok .refills in omega arith;
-        writebacks = let h = ok .writebacks in omega arith;
-      };
+      counts = grown _ _ _ (omega arith) (omega arith) (omega arith);
     };
   }
 
-  -- a clock that goes on
+  -- a clock that executes no word
   moved-good : (old : ℕ) → Narrow (visibleOf m) → 16 ≤ length (m .regs)
       → (t : Moved) (g : Goes G (wordAt p (m .scalars .pc)) n (visibleOf m) (m .scalars) old t)
       → Good G p n (quiet (m .regs) (moved (m .scalars) (g .running) (g .cache) (g .store) (g .refilled) (g .written)) .state)
@@ -110,12 +110,7 @@ module _ (G : Geometry) (p : List ℕ) (n : ℕ) (m : Machine) (s : List ℕ) (s
       lines = g .lines;
       phase = g .phase;
       registers = g .registers;
-      counts = record {
-        clocks = omega arith;
-        held = let h = ok .held in omega arith;
-        refills = let h = ok .refills in let o = g .once in omega arith;
-        writebacks = let h = ok .writebacks in let o = g .once in omega arith;
-      };
+      counts = let o = g .once in grown _ _ _ (omega arith) (omega arith) (omega arith);
     };
   }
 
@@ -132,16 +127,11 @@ module _ (G : Geometry) (p : List ℕ) (n : ℕ) (m : Machine) (s : List ℕ) (s
       lines = x .lines;
       phase = x .phase;
       registers = x .registers;
-      counts = record {
-        clocks = omega arith;
-        held = let h = ok .held in omega arith;
-        refills = let h = ok .refills in omega arith;
-        writebacks = let h = ok .writebacks in omega arith;
-      };
+      counts = grown _ _ _ (omega arith) (omega arith) (omega arith);
     };
   }
 
--- an access through the cache that has one clock to come finds its block
+-- an access through the cache with one clock left hits
 module _ (G : Geometry) (w n : ℕ) (v : Visible) (ca : Cache) (r : Running) (kq : kindOf w v n ≡ cached)
     (one : leftOf G w n r v ca ≡ 1) where
   due-hits : dueOk G w n v ca ≡ true → hits G w n v ca ≡ true
@@ -234,7 +224,7 @@ store-after G w n v s = go (pastCache w v n && isStore w)
 
 pub record-kept : RecordKept
 unfolding finish
-record-kept G p x pins g sh free = go (stalled (pins .line)) refl (acknowledges m pins) refl (eqb left 1) refl
+record-kept G p x pins g sh free = go (stalled (pins .lineByte)) refl (acknowledges m pins) refl (eqb left 1) refl
   where
     m : Machine
     m = x .machine
@@ -258,10 +248,10 @@ record-kept G p x pins g sh free = go (stalled (pins .line)) refl (acknowledges 
     left = leftOf G w n (m .scalars .running) v ca
 
     a : Accepted G p m s
-    a = accepted G p m s (pins .line) g sh free
+    a = accepted G p m s (pins .lineByte) g sh free
 
     to : ℕ
-    to = interruptChosen (m .scalars .status) (pins .line)
+    to = interruptChosen (m .scalars .status) (pins .lineByte)
 
     loads : ℕ
     loads = loaded w v n (pins .input) (view G ca s (target w v n))
@@ -275,12 +265,12 @@ record-kept G p x pins g sh free = go (stalled (pins .line)) refl (acknowledges 
     on : left ≢ 1 → Goes G w n v (m .scalars) left (advance G w n (m .scalars) v ca s)
     on more = goes-on G w n v (a .fit) (m .scalars) ca s (a .valid .wide) (a .valid .lines) refl left refl more (a .valid .phase)
 
-    go : (h : Bool) → stalled (pins .line) ≡ h → (k : Bool) → acknowledges m pins ≡ k → (t : Bool) → eqb left 1 ≡ t
+    go : (h : Bool) → stalled (pins .lineByte) ≡ h → (k : Bool) → acknowledges m pins ≡ k → (t : Bool) → eqb left 1 ≡ t
         → Kept G p (clockOf G p x pins .state)
     go true st k ac t q = kept _ (clocks-are-three G p x pins .held st)
         (held-good G p n m s (a .size) (a .room) (a .valid .counts) (a .valid) (sh .regs) refl)
     go false st true ac t q = kept _ (clocks-are-three G p x pins .takes st ac) (ended-good G p n m s (a .size) (a .room) (a .valid .counts)
-        (interrupted v to) ca s (silent 0) (interrupted-narrow v (pins .line) (a .valid .narrow))
+        (interrupted v to) ca s (silent 0) (interrupted-narrow v (pins .lineByte) (a .valid .narrow))
         (record { wide = a .valid .wide; lines = lines-shown G n v (interrupted v to) ca (λ e. interrupted-on v to ∙ e) (a .valid .lines) })
         refl (rw (interrupted-regs v to) (sh .regs)))
     go false st false ac true q = kept _ (clocks-are-three G p x pins .works st ac ∙ worked-last G w n m s (pins .input) (last ∙ q))

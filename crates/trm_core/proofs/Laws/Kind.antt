@@ -1,6 +1,5 @@
--- A word's kind, a device of the proofs: which line of the clock table it falls under, and what each test of the definitions says then.
--- Idea: the operation is one of 8, 9, 11–15 or another, whose base charge is 1 (computed for all sixteen); then every test computes.
--- Assumes nothing.
+-- The kind of a word, used in proofs only: which row of the clock table applies, and the value of each test of the definitions then.
+-- The operation is one of 8, 9, 11–15, or one whose base charge is 1 (computed for all sixteen); then every test computes.
 --   kindOf w v n    the kind        kind-is   every test, and the charge, by the kind
 use Prim.Native.Nat.{ℕ, _+_, _*_, _/_, _^_, _<_}
 use mathlib.Core.Path.{_≡_, refl, _∙_, subst}
@@ -66,7 +65,7 @@ abbrev pub inMemory : Kind → Bool
 inMemory k =
     elim k [ quick ↦ false | second ↦ false | longer ↦ false | device ↦ false | cached ↦ true | uncached ↦ true | clearing ↦ false ]
 
--- what a kind tells of the cache bit
+-- what a kind implies for the cache bit
 abbrev pub CacheBy : Kind → Bool → Type 0
 CacheBy quick on = Unit {0}
 CacheBy second on = Unit {0}
@@ -86,7 +85,7 @@ chargeOfKind G cached store misses evicts dirty = cond misses (missCharge G evic
 chargeOfKind G uncached store misses evicts dirty = cond store 5 6
 chargeOfKind G clearing store misses evicts dirty = 1 + burst G * dirty
 
--- what a kind tells of the base charge, and of LD against ST
+-- what a kind implies for the base charge, and for LD and ST
 abbrev pub CostBy : Kind → ℕ → Type 0
 CostBy quick w = Unit {0}
 CostBy second w = Unit {0}
@@ -109,7 +108,7 @@ pub record Is (k : Kind) (w : ℕ) (v : Visible) (n : ℕ) : Type 0 where
   pub charge : (G : Geometry) (misses evicts : Bool) (dirty : ℕ)
       → chargeBy G w v n misses evicts dirty ≡ chargeOfKind G k (isStore w) misses evicts dirty
 
--- an operation, by the numbers that the tests name
+-- an operation by its number, as far as the tests distinguish it
 data Operation (o : ℕ) : Type 0 where
   is8 : o ≡ 8 → Operation o
   is9 : o ≡ 9 → Operation o
@@ -142,7 +141,7 @@ operation-is o h = go (eqb o 8) refl (eqb o 9) refl (eqb o 11) refl (eqb o 12) r
     go false p false q false r false s false t false u true x y = is15 (eqb-true o 15 x)
     go false p false q false r false s false t false u false x y = other p q r s t u x (eqb-true (chargeOf o) 1 y)
 
--- the facts in their order
+-- the record of facts from its fields in order
 told : {k : Kind} {w : ℕ} {v : Visible} {n : ℕ} → isStepped w ≡ isLonger k → toMemory w v n ≡ inMemory k → toDevice w v n ≡ isDevice k
     → throughCache w v n ≡ isCached k → pastCache w v n ≡ isUncached k → turnsCacheOff w v ≡ isClearing k
     → takesBranch w v || isJump w || eqb (operation w) 15 ≡ isSecond k → CacheBy k (cacheOn v) → CostBy k w
@@ -198,11 +197,11 @@ kind-is w v n = by (operation-is (operation w) (mod-lt (w / 2 ^ 14) {m = 2 ^ 4} 
     by (other a b c d e f g one) = rw (a, b, c, d, e, f, g) (told (rw (a, b)) (rw (d, e)) (rw (d, e)) (rw (d, e)) (rw (d, e)) (rw c)
         (rw (c, f, g)) tt tt (λ G i j k. rw (c, d, e, f, one)))
 
--- every test by a known kind
+-- every test of a word whose kind is known
 pub is-of : (w : ℕ) (v : Visible) (n : ℕ) (k : Kind) → kindOf w v n ≡ k → Is k w v n
 is-of w v n k q = subst (λ j. Is j w v n) q (kind-is w v n)
 
--- past the cache, in the paper's numbers: LD waits 5 clocks and ST 4, and each has one more
+-- uncached, in the paper's numbers: LD waits 5 clocks and ST 4, and each has one last clock
 pub waits-are : {w : ℕ} {v : Visible} {n : ℕ} → Is uncached w v n → uncachedCharge w ≡ cond (isLoad w) 5 4 + 1
 waits-are {w} is = is .cost .0 ∙ rw (is .cost .1) (go (isStore w))
   where
@@ -210,7 +209,7 @@ waits-are {w} is = is .cost .0 ∙ rw (is .cost .1) (go (isStore w))
     go true = refl
     go false = refl
 
--- the kind by one test
+-- one test determines the kind
 pub longer-is : (k : Kind) → isLonger k ≡ true → k ≡ longer
 longer-is k = elim k as (λ j. isLonger j ≡ true → j ≡ longer)
     [ quick ↦ clash | second ↦ clash | longer ↦ λ _. refl | device ↦ clash | cached ↦ clash | uncached ↦ clash | clearing ↦ clash ]

@@ -1,6 +1,5 @@
--- Row 6 and row 4 by their numbers.
--- Idea: each test decides its clause; the lengths of a store are computed.
--- Assumes nothing.
+-- Row 6 clause by clause, and the store lengths of row 4.
+-- Each test decides its clause; the lengths are computed.
 use Prim.Native.Nat.{ℕ, _≤_}
 use mathlib.Core.Path.{_≡_, refl}
 use mathlib.Core.Bool.{Bool, true, false, not, _||_}
@@ -9,7 +8,7 @@ use lib.Dec.{eqb, ltb}
 use borrow.Author.Tests.{eq-eqb, ne-eqb, lt-ltb, le-ltb}
 use native.Mathlib.Omega.{arith}
 use Rattle.trm_word.specs.Address.{storeLengthOk}
-use Rattle.trm_core.specs.Refusals.{allAtMost, linesRefused}
+use Rattle.trm_core.specs.Refusals.{allAtMost, lineBytesRefused}
 use Rattle.trm_core.specs.Claims.{Limits}
 
 second : (a b : Bool) → a || true || b ≡ true
@@ -21,12 +20,12 @@ third true b = refl
 third false true = refl
 third false false = refl
 
--- a run that is not long, of equal lengths and with no byte above 7
+-- a run of at most 65,536 clocks, with equal lengths and no byte above 7
 short : (n : ℕ) → n ≤ 65536 → not true || ltb 65536 n || not true ≡ false
 short n h = rw (le-ltb 65536 n h)
 
 pub limits : Limits
-unfolding linesRefused storeLengthOk
+unfolding lineBytesRefused storeLengthOk
 limits =
     record {
       runs = λ ls is e h a. rw (eq-eqb (length ls) (length is) e, a) (short (length ls) h);

@@ -1,7 +1,6 @@
--- The clocked machine phase by phase: what phase 5 needs, the clocks to come, whether a clock is the word's last, what another does.
--- Idea: one law for each branch of a definition; the phase's tests are rewritten, never the record's fields.
--- Assumes nothing.
---   due-is    left-0 .. left-5    last-0 .. last-5    advance-0 .. advance-4    last-is   a last clock iff one is to come
+-- The clocked machine phase by phase: what phase 5 requires, the clocks left, whether a clock is the last, and what any other clock does.
+-- One law per branch of a definition; only the tests of the phase are rewritten, never the fields of the record.
+--   due-is    left-0 .. left-5    last-0 .. last-5    advance-0 .. advance-4    last-is   a clock is the last iff one is left
 use Prim.Native.Nat.{ℕ, zero, suc, _+_, _-_, _*_, _≤_}
 use mathlib.Core.Path.{_≡_, refl, sym, ap, _∙_}
 use mathlib.Core.Logic.{_≢_}
@@ -46,7 +45,7 @@ swap false false true x e = e
 swap false false false x e = e
 
 module _ (G : Geometry) (w n : ℕ) (v : Visible) (ca : Cache) where
-  -- what phase 5 needs, by kind
+  -- what phase 5 requires, by kind
   pub due-is : (k : Kind) → kindOf w v n ≡ k
       → dueOk G w n v ca
       ≡ isSecond k || (isClearing k && eqb (countDirty G ca) 0) || (isLoad w && isDevice k) || (inMemory k && hits G w n v ca)
@@ -72,7 +71,7 @@ module _ (G : Geometry) (w n : ℕ) (v : Visible) (ca : Cache) where
   unfolding chargeHere
   charge-is k kq = is-of w v n k kq .charge G _ _ _
 
-  -- an access through the cache of one clock finds its block
+  -- an access through the cache with charge 1 hits
   pub one-hits : kindOf w v n ≡ cached → chargeHere G w n v ca ≡ 1 → hits G w n v ca ≡ true
   unfolding chargeOfKind missCharge
   one-hits kq one = go (hits G w n v ca) (sym (charge-is cached kq) ∙ one)
@@ -82,7 +81,7 @@ module _ (G : Geometry) (w n : ℕ) (v : Visible) (ca : Cache) where
       go false e = absurd (omega arith)
 
   module _ (r : Running) where
-    -- the clocks to come
+    -- the clocks left
     pub left-0 : r .phase ≡ 0 → leftOf G w n r v ca ≡ chargeHere G w n v ca
     unfolding leftOf
     left-0 q = rw (test-at q 0)
@@ -136,7 +135,7 @@ module _ (G : Geometry) (w n : ℕ) (v : Visible) (ca : Cache) where
     unfolding isLast
     last-5 q = rw (test-at q 0, test-at q 1, test-at q 4, test-at q 5)
 
-    -- a clock is the word's last iff one clock is to come
+    -- a clock is the word's last iff one clock is left
     pub last-is : Phase G w n (kindOf w v n) r v ca → isLast G w n r v ca ≡ eqb (leftOf G w n r v ca) 1
     last-is (ready ph ct) = rw (last-0 ph, left-0 ph)
     last-is (arithmetic kq ph one top) = rw (last-1 ph kq, left-1 ph kq)

@@ -1,6 +1,5 @@
--- The refusals, computed by the checker.
--- Idea: one test computes all rows, and a test that computes to true gives the equations.
--- Assumes nothing.
+-- The table of refusals holds.
+-- One Bool test computes all rows; that it is true gives the equation of each row.
 use mathlib.Core.Path.{_≡_, refl}
 use mathlib.Core.Bool.{Bool, true, _&&_, and-eq-true-iff}
 use mathlib.Core.List.{List, [], _∷_}
@@ -19,7 +18,7 @@ use Rattle.trm_reference.specs.Access.{isLoad, isStore, addressOf, placeOfWord,
 use Rattle.trm_reference.specs.Access.{toMemory, toDevice, target, targetBlock, targetLine, stored, loaded, deviceAnswer, answerOf}
 use Rattle.trm_reference.specs.Execute.{operandA, operandB, calculated, statusSet, returned, jumped, branchTaken, branchTarget}
 use Rattle.trm_reference.specs.Execute.{branched, called, execute}
-use Rattle.trm_reference.specs.Interrupt.{stalled, lineRaised, interruptChosen, savedWord, interrupted}
+use Rattle.trm_reference.specs.Interrupt.{stalled, interruptRaised, interruptChosen, savedWord, interrupted}
 use Rattle.trm_reference.specs.History.{howMany}
 use Rattle.trm_reference.specs.Charge.{isStepped, isJump, takesBranch, throughCache, pastCache, turnsCacheOff, missCharge}
 use Rattle.trm_reference.specs.Charge.{uncachedCharge, chargeBy}
@@ -31,10 +30,10 @@ use Rattle.trm_core.specs.Clock.{lineFor, hits, chargeHere, isLast, cach
 use Rattle.trm_core.specs.Clock.{missing, firstClock, writeLine, advance, worked, unheld, heldClock, clockOf}
 use Rattle.trm_core.specs.Rule.{widthsOk, countsOk, registersOk, arithmeticOk, writebackOk, refillOk, waitOk, dueOk, phaseOk}
 use Rattle.trm_core.specs.Rule.{lineOk, marksOk, allBelow, linesOk, recordOk}
-use Rattle.trm_core.specs.Refusals.{allAtMost, programOk, storeOk, recordRows, countRow, clockRows, linesRefused, runRows}
+use Rattle.trm_core.specs.Refusals.{allAtMost, programOk, storeOk, recordRows, countRow, clockRows, lineBytesRefused, runRows}
 use Rattle.trm_core.specs.Refusals.{resetRefusal, clockRefusal, runRefusal, lookRefusal, copyRefusal, watchRefusal}
 use Rattle.trm_cache.specs.Cache.{below}
-use Rattle.trm_core.specs.Scenario.{program, spread, lineSpans, pins, firstStore, recordHistory}
+use Rattle.trm_core.specs.Scenario.{program, spread, lineByteSpans, pins, firstStore, recordHistory}
 use Rattle.trm_core.specs.Refused.{clockedIn, scenarioAfter, total, Row, AllGive, rows}
 use Rattle.trm_core.specs.Claims.{RefusalsHold}
 
@@ -55,12 +54,12 @@ unfolding test howMany storeLengthOk signed word product lowWord highWord partia
     carryOfAdd carryOfSub overflowOfAdd overflowOfSub signFlag zeroFlag carryAfter overflowAfter flagsAfter flagsOf burst blockOf
     lineOf registerIndex register withRegister cacheOn withMode nextPc wordAt isLoad isStore addressOf placeOfWord isMemory
     memoryIndex deviceNumber isAccess toMemory toDevice target targetBlock targetLine stored loaded deviceAnswer answerOf operandA
-    operandB calculated statusSet returned jumped branchTaken branchTarget branched called execute stalled lineRaised
+    operandB calculated statusSet returned jumped branchTaken branchTarget branched called execute stalled interruptRaised
     interruptChosen savedWord interrupted isStepped isJump takesBranch throughCache pastCache turnsCacheOff missCharge
     uncachedCharge chargeBy pinsOf clocks lineAt holds lineView view writeWord fillWord countDirty lowest firstDirty emptyTo
     allEmptied productAt remainderAt quotientAt resetOf lineFor hits chargeHere isLast cacheAfter storeAfter finish written writing
     filling missing firstClock writeLine advance worked unheld heldClock clockOf widthsOk countsOk registersOk arithmeticOk
     writebackOk refillOk waitOk dueOk phaseOk lineOk marksOk allBelow linesOk recordOk allAtMost programOk storeOk recordRows
-    countRow clockRows linesRefused runRows resetRefusal clockRefusal runRefusal lookRefusal copyRefusal watchRefusal below program
-    spread lineSpans pins firstStore recordHistory clockedIn scenarioAfter total rows
+    countRow clockRows lineBytesRefused runRows resetRefusal clockRefusal runRefusal lookRefusal copyRefusal watchRefusal below program
+    spread lineByteSpans pins firstStore recordHistory clockedIn scenarioAfter total rows
 refusals-hold = test-true rows refl

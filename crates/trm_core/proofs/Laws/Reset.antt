@@ -1,6 +1,5 @@
 -- The record after a reset: its lines are empty, and it is accepted.
--- Idea: every clause of the rule at zeros.
--- Assumes nothing.
+-- Every clause of the record rule, at zeros.
 --   first-line, first-words, first-wide   the first cache        reset-legal   an accepted reset        reset-kept   its record is accepted
 use Prim.Native.Nat.{ℕ, _+_, _*_, _≤_, _<_}
 use mathlib.Core.Path.{_≡_, refl}
@@ -30,7 +29,7 @@ pub length-zeros : (k : ℕ) → length (zeros k) ≡ k
 unfolding zeros
 length-zeros k = length-replicate k 0
 
--- reset takes the store alone
+-- reset takes only the store
 pub reset-legal : (s : List ℕ) → resetRefusal s ≡ 0 → storeLengthOk (length s) ≡ true
 unfolding resetRefusal
 reset-legal s r = go (storeLengthOk (length s)) r

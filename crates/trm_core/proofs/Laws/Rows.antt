@@ -1,8 +1,7 @@
--- Laws of rows 3, 4 and 5: what a call that passes them tells, and that they stand before the call's own rows.
--- Idea: by cases on the three tests.
--- Assumes nothing.
---   Passed, rows-passed   what a number of 0 tells      rows-rest   passed, the call's own rows decide
---   rows-kept   not passed, they do not count                   legal-of   the length of a store that passes
+-- Laws about rows 3, 4 and 5: what a call that passes them implies, and that they come before the call's own rows.
+-- By cases of the three tests.
+--   Passed, rows-passed   what the number 0 implies             rows-rest   if passed, the call's own rows decide
+--   rows-kept   if not passed, the call's own rows do not matter    legal-of   the length of a store that passes
 use Prim.Native.Nat.{ℕ}
 use mathlib.Core.Path.{_≡_, refl, sym}
 use mathlib.Core.Bool.{Bool, true, false, cond, not}
@@ -39,12 +38,12 @@ rows-passed G p m s rest = go (programOk p) refl (storeOk m s) refl (recordOk G 
     go true x true y false z q = absurd (omega arith)
     go true x true y true z q = (record { program = x; store = y; rule = z }, q)
 
--- passed, they leave the number to the call's own rows
+-- if rows 3, 4 and 5 are passed, the call's own rows give the number
 pub rows-rest : (G : Geometry) (p : List ℕ) (m : Machine) (s : List ℕ) (rest : ℕ) → Passed G p m s → recordRows G p m s rest ≡ rest
 unfolding recordRows
 rows-rest G p m s rest h = rw (h .program, h .store, h .rule)
 
--- not passed, the call's own rows do not count
+-- if they are not passed, the call's own rows do not matter
 pub rows-kept : (G : Geometry) (p : List ℕ) (m : Machine) (s : List ℕ) (rest : ℕ) → eqb (recordRows G p m s 0) 0 ≡ false
     → recordRows G p m s 0 ≡ recordRows G p m s rest
 unfolding recordRows

@@ -1,6 +1,5 @@
--- Row 5 as facts: an accepted record is a valid one, both ways.
--- Idea: `Valid` has a field for each clause of the rule, and `Phase` a constructor for each phase and kind with just its facts.
--- Assumes nothing.
+-- Row 5 as facts: a record is accepted if and only if it is `Valid`.
+-- `Valid` has one field per clause of the rule, and `Phase` one constructor per phase and kind with the facts it needs.
 --   valid-ok     a valid record is accepted        valid-from   an accepted record is valid
 use Prim.Native.Nat.{ℕ, _+_, _*_, _^_, _≤_, _<_}
 use mathlib.Core.Path.{_≡_, refl, sym, ap, _∙_, subst}
@@ -133,7 +132,7 @@ valid-ok G p n m pos x =
     k : Counts
     k = m .scalars .counts
 
--- the way back
+-- the converse: an accepted record is valid
 
 pub line-from : (G : Geometry) (on : Bool) (n l : ℕ) (ln : Line) → lineOk G on n l ln ≡ true → LineFits G on n l ln
 unfolding lineOk

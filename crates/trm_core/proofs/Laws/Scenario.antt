@@ -1,6 +1,5 @@
--- The scenario, computed by the checker.
--- Idea: numbers are compared by a test that computes to true; the terms they come from are never compared.
--- Assumes nothing.
+-- The numbers of the scenario are the expected ones.
+-- Computed by a Bool test on numbers, so the terms that they come from are never compared.
 use mathlib.Core.Path.{refl}
 use borrow.Author.Tests.{eqb-true}
 use Rattle.trm_laws.proofs.Table.{same, same-true}
@@ -16,7 +15,7 @@ use Rattle.trm_reference.specs.Access.{isLoad, isStore, addressOf, placeOfWord,
 use Rattle.trm_reference.specs.Access.{toMemory, toDevice, target, targetBlock, targetLine, stored, loaded, deviceAnswer, answerOf}
 use Rattle.trm_reference.specs.Execute.{operandA, operandB, calculated, statusSet, returned, jumped, branchTaken, branchTarget}
 use Rattle.trm_reference.specs.Execute.{branched, called, execute}
-use Rattle.trm_reference.specs.Interrupt.{stalled, lineRaised, interruptChosen, savedWord, interrupted}
+use Rattle.trm_reference.specs.Interrupt.{stalled, interruptRaised, interruptChosen, savedWord, interrupted}
 use Rattle.trm_reference.specs.History.{since, lastIn, storedSince, lastDirty, refillsNow, dirtyNow, howMany, dirtyLines}
 use Rattle.trm_reference.specs.Charge.{isStepped, isJump, takesBranch, throughCache, pastCache, turnsCacheOff, missCharge}
 use Rattle.trm_reference.specs.Charge.{uncachedCharge, chargeBy}
@@ -30,7 +29,7 @@ use Rattle.trm_core.specs.Record.{productAt, remainderAt, quotientAt, re
 use Rattle.trm_core.specs.Clock.{lineFor, hits, chargeHere, isLast, cacheAfter, storeAfter, finish, written, writing, filling}
 use Rattle.trm_core.specs.Clock.{missing, firstClock, writeLine, advance, worked, unheld, heldClock, clockOf}
 use Rattle.trm_cache.specs.Cache.{below}
-use Rattle.trm_core.specs.Scenario.{program, spread, lineSpans, pins, firstStore, recordHistory, referenceHistory, mixed}
+use Rattle.trm_core.specs.Scenario.{program, spread, lineByteSpans, pins, firstStore, recordHistory, referenceHistory, mixed}
 use Rattle.trm_core.specs.Scenario.{seenNumbers, runningNumbers, countNumbers, answerNumbers, storeNumbers, machineNumbers}
 use Rattle.trm_core.specs.Scenario.{recordNumbers, referenceNumbers, recordDigest, referenceDigest, finishesOf, finishes}
 use Rattle.trm_core.specs.Scenario.{phases, expectedRecordDigest, expectedReferenceDigest, expectedFinishes, expectedPhases}
@@ -42,13 +41,13 @@ unfolding same signed word product lowWord highWord partialProduct mulAfter abov
     overflowOfAdd overflowOfSub signFlag zeroFlag carryAfter overflowAfter flagsAfter flagsOf burst blockOf lineOf registerIndex
     register withRegister cacheOn withMode nextPc wordAt resetVisible isLoad isStore addressOf placeOfWord isMemory memoryIndex
     deviceNumber isAccess toMemory toDevice target targetBlock targetLine stored loaded deviceAnswer answerOf operandA operandB
-    calculated statusSet returned jumped branchTaken branchTarget branched called execute stalled lineRaised interruptChosen
+    calculated statusSet returned jumped branchTaken branchTarget branched called execute stalled interruptRaised interruptChosen
     savedWord interrupted since lastIn storedSince lastDirty refillsNow dirtyNow howMany dirtyLines isStepped isJump takesBranch
     throughCache pastCache turnsCacheOff missCharge uncachedCharge chargeBy pinsOf clocks referenceReset misses evicts charge
     refillOver writebackOver memoryAfter historyAfter carryOut spend takeOff referenceHeld referenceInterrupt referenceUnheld
     referenceClock lineAt holds lineView view writeWord fillWord countDirty lowest firstDirty emptyTo allEmptied productAt
     remainderAt quotientAt resetOf lineFor hits chargeHere isLast cacheAfter storeAfter finish written writing filling missing
-    firstClock writeLine advance worked unheld heldClock clockOf below program spread lineSpans pins firstStore recordHistory
+    firstClock writeLine advance worked unheld heldClock clockOf below program spread lineByteSpans pins firstStore recordHistory
     referenceHistory mixed seenNumbers runningNumbers countNumbers answerNumbers storeNumbers machineNumbers recordNumbers
     referenceNumbers recordDigest referenceDigest finishesOf finishes phases expectedRecordDigest expectedReferenceDigest
     expectedFinishes expectedPhases

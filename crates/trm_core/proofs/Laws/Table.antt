@@ -1,7 +1,6 @@
 -- The clock table on any accepted record: one clock of the word at PC, by phase and kind.
--- Idea: the word's first clock by its kind, any other by its phase; `Laws.Goes` has what each does, and `Laws.Kept` uses this too.
--- Assumes nothing.
---   accepted   what an accepted call tells        goes-on   any clock but the last        clock-table
+-- A word's first clock by cases of the kind, any other by cases of the phase (laws of `Laws.Goes`).
+--   accepted   what an accepted call implies        goes-on   any clock but the last        clock-table
 use Prim.Native.Nat.{ℕ, _+_, _-_, _*_, _≤_, _<_}
 use mathlib.Core.Path.{_≡_, refl, sym, ap, _∙_}
 use mathlib.Core.Logic.{_≢_}
@@ -38,7 +37,7 @@ use Rattle.trm_core.proofs.Laws.Phases.{left-2-clearing, left-3, left-4
 use Rattle.trm_core.proofs.Laws.Phases.{advance-2-clearing, advance-3, advance-4}
 use Rattle.trm_core.proofs.Laws.Goes.{Lines, Goes, stays, write-goes, clear-goes, fill-goes, miss-goes}
 
--- what an accepted clock call tells: rows 4, 5 and 8
+-- what an accepted clock call implies: rows 4, 5 and 8
 pub record Accepted (G : Geometry) (p : List ℕ) (m : Machine) (s : List ℕ) : Type 0 where
   pub fit : Fit G (length s)
   pub legal : storeLengthOk (length s) ≡ true
@@ -46,10 +45,10 @@ pub record Accepted (G : Geometry) (p : List ℕ) (m : Machine) (s : List ℕ) :
   pub valid : Valid G p (length s) m
   pub room : m .scalars .counts .clocks + 1 ≤ 4294967295
 
-pub accepted : (G : Geometry) (p : List ℕ) (m : Machine) (s : List ℕ) (line : ℕ) → geometryOk G ≡ true → Shaped G m
-    → clockRefusal G p m s line ≡ 0 → Accepted G p m s
+pub accepted : (G : Geometry) (p : List ℕ) (m : Machine) (s : List ℕ) (lineByte : ℕ) → geometryOk G ≡ true → Shaped G m
+    → clockRefusal G p m s lineByte ≡ 0 → Accepted G p m s
 unfolding clockRefusal recordRows clockRows countRow storeOk
-accepted G p m s line g sh = go (programOk p) (storeOk m s) refl (recordOk G p (length s) m) refl (ltb 7 line)
+accepted G p m s lineByte g sh = go (programOk p) (storeOk m s) refl (recordOk G p (length s) m) refl (ltb 7 lineByte)
     (ltb 4294967295 (m .scalars .counts .clocks + 1)) refl
   where
     go : (a b : Bool) → storeOk m s ≡ b → (c : Bool) → recordOk G p (length s) m ≡ c → (d e : Bool)
@@ -71,7 +70,7 @@ accepted G p m s line g sh = go (programOk p) (storeOk m s) refl (recordOk G p (
 
 module _ (G : Geometry) (w n : ℕ) (v : Visible) (ok : Fit G n) (c : Scalars) (ca : Cache) (s : List ℕ) (wd : Wide G ca)
     (ls : Lines G n v ca) (len : length s ≡ n) where
-  -- the last clock is due
+  -- only the last clock is left
   soon : (old : ℕ) → dueOk G w n v ca ≡ true → 2 ≡ old → Goes G w n v c old (moved c (inPhase 5 0) ca s 0 0)
   soon old dk eq = stays G w n v ok c ca s wd ls len old (inPhase 5 0) (due refl refl dk) (idle w v 5 0 refl)
       (rw (left-5 G w n v ca (inPhase 5 0) refl) eq)
@@ -176,7 +175,7 @@ module _ (G : Geometry) (w n : ℕ) (v : Visible) (ok : Fit G n) (c : Scalars) (
     goes-on (waiting kq ph one top) = on-wait kq ph one top
     goes-on (due ph ct dk) = absurd (more (sym oq ∙ left-5 G w n v ca (c .running) ph))
 
--- the two ways of a clock that works
+-- a clock of the word at PC is its last, or not
 pub worked-last : (G : Geometry) (w n : ℕ) (m : Machine) (s : List ℕ) (i : ℕ)
     → isLast G w n (m .scalars .running) (visibleOf m) (cacheOf m) ≡ true → worked G w n m s i ≡ finish G w n m s i
 unfolding worked
@@ -235,7 +234,7 @@ clock-table G p x pins g sh free st ac = record {
     left = leftOf G w n (m .scalars .running) v ca
 
     a : Accepted G p m s
-    a = accepted G p m s (pins .line) g sh free
+    a = accepted G p m s (pins .lineByte) g sh free
 
     works : clockOf G p x pins ≡ worked G w n m s (pins .input)
     works = clocks-are-three G p x pins .works st ac

@@ -1,6 +1,5 @@
 -- An accepted image: the program's record, the record of first data words if there is one, and runs from there on.
--- Idea: no record is at fault, so the kinds are in order.
--- Assumes nothing.
+-- Idea: no record is at fault, so the kinds come in order.
 use Prim.Native.Nat.{ℕ, zero, suc, _+_, _/_, _%_, _≤_, _<_}
 use mathlib.Core.Path.{_≡_, refl, ap, _∙_}
 use mathlib.Core.Bool.{Bool, true, false, cond}
@@ -23,7 +22,7 @@ use Rattle.trm_image.proofs.Laws.Clean.{FirstPart, SecondPart, first-pa
 use Rattle.trm_image.proofs.Laws.Runs.{later-free, here-clean, here-whole, runs-no-words}
 pub use Rattle.trm_image.proofs.Laws.Runs.{Next, runs-next, runs-end}
 
--- the tests of the whole image
+-- the tests of the image as a whole, passed
 record Passed (n : ℕ) (s : List ℕ) : Type 0 where
   some : 0 < length s
   small : length s ≤ 65536
@@ -50,7 +49,7 @@ unfolding wordsAt
 length-wordsAt s at zero = refl
 length-wordsAt s at (suc k) = ap suc (length-wordsAt s (at + 4) k)
 
--- past the end a kind reads 0
+-- a kind read past the end is 0
 pub kind-inside : (s : List ℕ) (at : ℕ) → kindAt s at ≡ 2 → at < length s
 kind-inside s at k = go (decLt at (length s))
   where
@@ -143,7 +142,7 @@ module _ (n : ℕ) (s : List ℕ) (p : Passed n s) where
         list = rw (head-places, head-kind);
       }
 
--- first data words after it, at a
+-- first data words after it, at offset a
 module _ (n : ℕ) (s : List ℕ) (p : Passed n s) (a : ℕ) (is : a ≡ 6 + lengthAt s 0) (k : kindAt s a ≡ 2) where
   a-free : firstFault n s (kindAt s 0) (begins 0 a (drop a s)) .number ≡ 0
   a-free = rw is (head-free n s p)

@@ -1,6 +1,5 @@
--- The bytes of an image as the bytes of the numbers that they spell.
--- Idea: four bytes below 256 are the digits of one number; words by induction on how many there are.
--- Assumes nothing.
+-- The bytes of an image are those of the numbers read from them.
+-- Idea: four bytes below 256 are the digits of one number; words by induction on their count.
 use Prim.Native.Nat.{ℕ, zero, suc, _+_, _*_, _/_, _%_, _≤_}
 use mathlib.Core.Path.{_≡_, refl, ap, _∙_}
 use mathlib.Core.Bool.{true}
@@ -93,7 +92,7 @@ module _ (s : List ℕ) (small : allAtMost 255 s ≡ true) where
       ∙ ap (λ t. bytes4 (le4 s at) ++ t)
       (word-bytes k (at + 4) (omega arith) ∙ ap (λ j. wordBytes (wordsAt s (at + 4) k) ++ drop j s) e)
 
-  -- four bytes are a number of 32 bits
+  -- four bytes give a number of 32 bits
   pub le4-small : (at : ℕ) → le4 s at ≤ 4294967295
   le4-small at =
       let a = byte at in

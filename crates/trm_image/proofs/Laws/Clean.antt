@@ -1,6 +1,5 @@
--- A record without a fault: each row that it passes, what its kind may be, and what its kind asks of it.
--- Idea: a table of rows that gives 0 has no row that is met.
--- Assumes nothing.
+-- A record without a fault: every row that it passes, the kinds possible there, and what each kind requires.
+-- Idea: if a chain of rows gives 0, no row's test holds.
 use Prim.Native.Nat.{ℕ, _+_, _/_, _%_, _≤_}
 use mathlib.Core.Path.{_≡_, refl, sym, _∙_}
 use mathlib.Core.Bool.{Bool, true, false, cond, not, _||_}
@@ -12,9 +11,10 @@ use Rattle.trm_word.specs.Address.{storeLengthOk}
 use Rattle.trm_core.specs.Refusals.{allAtMost}
 use Rattle.trm_laws.proofs.Tests.{clash}
 use Rattle.trm_image.specs.Records.{lengthAt, kindAt, wordsAt}
-use Rattle.trm_image.specs.Refused.{cutShort, lengthWrong, countAt, lineAt, countWrong, inOrder, wordWrong, lineWrong, faultAt}
+use Rattle.trm_image.specs.Refused.{cutShort, lengthWrong, countAt, lineByteAt, countWrong, inOrder, wordWrong, lineByteWrong}
+use Rattle.trm_image.specs.Refused.{faultAt}
 
--- a row that is not met leaves the rows below it
+-- a row whose test fails leaves the rows below it
 pub passed : (t : Bool) (row x : ℕ) → eqb row 0 ≡ false → eqb (cond t row x) 0 ≡ true → (t ≡ false) × (eqb x 0 ≡ true)
 passed true row x z e = clash (sym z ∙ e)
 passed false row x z e = (refl, e)
@@ -30,7 +30,7 @@ pub record Clean (n : ℕ) (s : List ℕ) (before at : ℕ) : Type 0 where
   pub order : inOrder before (kindAt s at) ≡ true
   pub word : wordWrong s at ≡ false
   pub store : storeLengthOk n ≡ true
-  pub line : lineWrong s at ≡ false
+  pub lineByte : lineByteWrong s at ≡ false
 
 pub clean : (n : ℕ) (s : List ℕ) (before at : ℕ) → eqb (faultAt n s before at) 0 ≡ true → Clean n s before at
 unfolding faultAt
@@ -41,7 +41,7 @@ clean n s before at t =
     let d = passed (not (inOrder before (kindAt s at))) 2 _ refl (c .1) in
     let e = passed (wordWrong s at) 3 _ refl (d .1) in
     let f = passed (not (storeLengthOk n)) 4 _ refl (e .1) in
-    let g = passed (lineWrong s at) 6 _ refl (f .1) in
+    let g = passed (lineByteWrong s at) 6 _ refl (f .1) in
     record {
       whole = a .0;
       length = b .0;
@@ -49,10 +49,10 @@ clean n s before at t =
       order = not-false (inOrder before (kindAt s at)) (d .0);
       word = e .0;
       store = not-false (storeLengthOk n) (f .0);
-      line = g .0;
+      lineByte = g .0;
     }
 
--- where there is no such store, a record fails row 4 or a row before it
+-- with an illegal store length a record fails row 4 or a row before it
 down-to : (t : Bool) (row x : ℕ) → 1 ≤ row → row ≤ 4 → (1 ≤ x) × (x ≤ 4) → (1 ≤ cond t row x) × (cond t row x ≤ 4)
 down-to true row x a b h = (a, b)
 down-to false row x a b h = h
@@ -91,7 +91,7 @@ ordered before kind = go1 (eqb kind 1) refl
     go1 true e o = is-first (eqb-true kind 1 e) (eqb-true before 0 o)
     go1 false e o = go2 (eqb kind 2) refl o
 
--- what lengths, counts, words and line bytes may be, by kind
+-- what length, count, words and line byte can be, by kind
 pub record FirstPart (s : List ℕ) (at : ℕ) : Type 0 where
   pub some : 4 ≤ lengthAt s at
   pub long : lengthAt s at ≤ 16384
@@ -106,7 +106,7 @@ pub record RunPart (s : List ℕ) (at : ℕ) : Type 0 where
   pub nine : lengthAt s at ≡ 9
   pub one : 1 ≤ countAt s at
   pub most : countAt s at ≤ 65536
-  pub line : lineAt s at ≤ 7
+  pub lineByte : lineByteAt s at ≤ 7
 
 module _ (n : ℕ) (s : List ℕ) (before at : ℕ) (c : Clean n s before at) where
   pub first-part : kindAt s at ≡ 1 → FirstPart s at
@@ -134,16 +134,16 @@ module _ (n : ℕ) (s : List ℕ) (before at : ℕ) (c : Clean n s before at) wh
       }
 
   pub run-part : kindAt s at ≡ 3 → RunPart s at
-  unfolding lengthWrong countWrong lineWrong
+  unfolding lengthWrong countWrong lineByteWrong
   run-part k =
       let l : not (eqb (lengthAt s at) 9) ≡ false = rw k at (c .length) in
       let m : eqb (countAt s at) 0 || ltb 65536 (countAt s at) ≡ false = rw k at (c .count) in
-      let b : ltb 7 (lineAt s at) ≡ false = rw k at (c .line) in
+      let b : ltb 7 (lineByteAt s at) ≡ false = rw k at (c .lineByte) in
       let a = neither (eqb (countAt s at) 0) (ltb 65536 (countAt s at)) m in
       let z : countAt s at ≡ 0 → ⊥ = eqb-false (countAt s at) 0 (a .0) in
       record {
         nine = eqb-true (lengthAt s at) 9 (not-false (eqb (lengthAt s at) 9) l);
         one = omega arith;
         most = ltb-false 65536 (countAt s at) (a .1);
-        line = ltb-false 7 (lineAt s at) b;
+        lineByte = ltb-false 7 (lineByteAt s at) b;
       }

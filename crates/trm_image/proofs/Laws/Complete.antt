@@ -1,6 +1,5 @@
--- Every image that the paper describes is accepted when written out, and is read as what it was written from.
--- Idea: record after record from a place on, the runs by induction; what lies behind each record is known.
--- Assumes nothing.
+-- Every image that the paper describes is accepted when written out, and read back as it was.
+-- Idea: record by record from an offset on, the runs by induction; the bytes after each record are known.
 use Prim.Native.Nat.{ℕ, _+_, _≤_, _<_}
 use mathlib.Core.Path.{_≡_, refl, ap, _∙_}
 use mathlib.Core.Bool.{true, false, cond, _&&_}
@@ -22,7 +21,7 @@ use Rattle.trm_image.proofs.Laws.Readback.{Here, here}
 use Rattle.trm_image.proofs.Laws.Unfaulted.{words-read, program-unfaulted, first-unfaulted}
 use Rattle.trm_image.proofs.Laws.Unfaulted.{runPayload, Bounds, run-back, run-unfaulted}
 
--- from this place on no record is at fault, and these words and runs are what the records hold
+-- from this offset on no record is at fault, and the records hold these words and runs
 record Read (n : ℕ) (s : List ℕ) (before at : ℕ) (p ws : List ℕ) (rs : List Run) : Type 0 where
   free : firstFault n s before (begins 0 at (drop at s)) ≡ record { number = 0; at = 0 }
   program : wordsIn 1 s (begins 0 at (drop at s)) ≡ p
@@ -40,7 +39,7 @@ module _ (n : ℕ) (s : List ℕ) (before at : ℕ) where
         runs = ap (runsIn s) (ended s at h);
       }
 
-  -- one record more in front
+  -- one more record in front
   read-more : (k : ℕ) (p ws : List ℕ) (rs : List Run) → at < length s → kindAt s at ≡ k → faultAt n s before at ≡ 0
       → Read n s k (at + 6 + lengthAt s at) p ws rs
       → Read n s before at (cond (eqb k 1) (payloadWords s at) [] ++ p) (cond (eqb k 2) (payloadWords s at) [] ++ ws)
@@ -72,15 +71,15 @@ module _ (n : ℕ) (legal : storeLengthOk n ≡ true) (s : List ℕ) (small : le
       read-end n s before at (omega (arith, l, m))
   runs-read (r ∷ rs) before at z ok e =
       let h = here s at 3 (runPayload r) (runBytes rs) small (omega arith) e in
-      both (leb 1 (r .count) && leb (r .count) 65536 && leb (r .line) 7 && leb (r .input) 4294967295) (runsOk rs)
+      both (leb 1 (r .count) && leb (r .count) 65536 && leb (r .lineByte) 7 && leb (r .input) 4294967295) (runsOk rs)
       (λ t more.
-      all4 (leb 1 (r .count)) (leb (r .count) 65536) (leb (r .line) 7) (leb (r .input) 4294967295)
+      all4 (leb 1 (r .count)) (leb (r .count) 65536) (leb (r .lineByte) 7) (leb (r .input) 4294967295)
       (λ a b c d.
       run-read before at r rs (runBytes rs) z
       (record {
         one = leb-true 1 (r .count) a;
         most = leb-true (r .count) 65536 b;
-        line = leb-true (r .line) 7 c;
+        lineByte = leb-true (r .lineByte) 7 c;
         input = leb-true (r .input) 4294967295 d;
       })
       h (runs-read rs 3 (at + 6 + lengthAt s at) refl more (h .after)))

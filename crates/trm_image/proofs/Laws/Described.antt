@@ -1,6 +1,5 @@
--- Every accepted image is as the paper describes one.
--- Idea: by whether the second record is one of first data words.
--- Assumes nothing.
+-- Every accepted image has the form that the paper describes.
+-- Idea: by cases of whether the second record holds first data words.
 use Prim.Native.Nat.{ℕ, _+_, _/_}
 use mathlib.Core.Path.{_≡_, sym, ap, ap₂, _∙_}
 use mathlib.Core.Bool.{true, false}
@@ -19,7 +18,7 @@ use Rattle.trm_image.proofs.Laws.Accepted.{Head, Second, Third, accepte
 use Rattle.trm_image.proofs.Laws.Written.{length-payload, words-record, Left, left}
 
 module _ (n : ℕ) (s : List ℕ) (small : allAtMost 255 s ≡ true) (h : Head n s) where
-  -- the program's record and what is behind it
+  -- the program's record and what follows it
   head-bytes : s ≡ recordBytes 1 (wordBytes (imageOf s .program)) ++ drop (6 + lengthAt s 0) s
   head-bytes = words-record s small 0 (h .whole) (h .fours)
       ∙ ap (λ k. recordBytes k (wordBytes (payloadWords s 0)) ++ drop (6 + lengthAt s 0) s) (h .kind)
@@ -51,7 +50,7 @@ module _ (n : ℕ) (s : List ℕ) (small : allAtMost 255 s ≡ true) (h : Head n
   second-left : Second n s → Left s (6 + lengthAt s 0 + 6 + lengthAt s (6 + lengthAt s 0))
   second-left x = left n s small (length s) (6 + lengthAt s 0 + 6 + lengthAt s (6 + lengthAt s 0)) (omega arith) (x .runs)
 
-  -- the record of first data words and what is behind it
+  -- the record of first data words and what follows it
   second-record : Second n s → kindAt s (6 + lengthAt s 0) ≡ 2
       → drop (6 + lengthAt s 0) s ≡ recordBytes 2 (wordBytes (imageOf s .first)) ++ runBytes (imageOf s .runs)
   second-record x k =

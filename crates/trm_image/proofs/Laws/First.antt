@@ -1,6 +1,5 @@
--- What is refused: too long, empty, or a first fault, which is the first record's where there is no such store.
--- Idea: by the tests of the whole image; a first fault by induction on the records.
--- Assumes nothing.
+-- A refused image is too long, or empty, or has a first fault; with an illegal store length that is the first record's.
+-- Idea: by cases of the tests of the whole image; the first fault by induction on the records.
 use Prim.Native.Nat.{ℕ, _≤_, _<_}
 use mathlib.Core.Path.{_≡_, refl, sym, ap}
 use mathlib.Core.Logic.{_≢_}
@@ -17,7 +16,7 @@ use Rattle.trm_image.proofs.Laws.Clean.{no-store-fault}
 use Rattle.trm_image.proofs.Laws.Walk.{fault-here}
 use Rattle.trm_image.specs.Claims.{lastKind, Faultless, FirstFault, Why, too-long, empty, faulty, no-store, RefusedFirst}
 
--- the first fault of some records, the kind before them being `last`
+-- the first fault of some records, `last` being the kind before them
 record FirstIn (n : ℕ) (s : List ℕ) (last : ℕ) (ats : List ℕ) (f : Refused) : Type 0 where
   before : List ℕ
   after : List ℕ
@@ -72,7 +71,7 @@ module _ (n : ℕ) (s : List ℕ) where
       → Why n s (firstFault n s 0 (recordsOf s) .number) (firstFault n s 0 (recordsOf s) .at)
   why-faulty small legal z = faulty small legal (first-fault z)
 
-  -- the first record is then at fault
+  -- with an illegal store length the first record is at fault
   why-store : length s ≤ 65536 → 0 < length s → storeLengthOk n ≡ false
       → Why n s (firstFault n s 0 (recordsOf s) .number) (firstFault n s 0 (recordsOf s) .at)
   unfolding recordsOf

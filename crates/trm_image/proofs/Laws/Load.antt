@@ -1,6 +1,5 @@
--- Words of an image put into an array one after another, the rest of it being zero.
--- Idea: the array holds the first i words of what it is to hold; at the array's end that is all of it.
--- Assumes nothing.
+-- Words of an image copied into an array one by one, the rest of it cleared.
+-- Idea: after i words the array agrees with its final content on the first i; at the array's end that is all of it.
 use Prim.Native.Nat.{ℕ, zero, suc, _+_, _*_, _-_, _≤_, _<_}
 use mathlib.Core.Path.{_≡_, refl, sym, ap, _∙_}
 use mathlib.Core.List.{List, [], _∷_, _++_}
@@ -35,7 +34,7 @@ zeros-behind [] n i = zeros n i
 zeros-behind (x ∷ l) n zero = refl
 zeros-behind (x ∷ l) n (suc i) = zeros-behind l n i
 
--- an array of this room is to hold so many words, and then zeros
+-- an array of `room` words that gets `count` words and then zeros
 module _ (s : List ℕ) (at count room : ℕ) (fits : count ≤ room) where
   abbrev whole : List ℕ
   whole = wordsAt s at count ++ replicate (room - count) 0

@@ -1,6 +1,5 @@
--- A payload as a part of the image: its bytes and words are the image's.
--- Idea: a byte of a part is the byte so far behind the part's start; words by induction on how many there are.
--- Assumes nothing.
+-- A payload as a slice of the image: its bytes and words are the image's.
+-- Idea: byte i of a slice is byte i after the slice's start; words by induction on their count.
 use Prim.Native.Nat.{ℕ, zero, suc, _+_, _*_, _-_, _≤_, _<_}
 use mathlib.Core.Path.{_≡_, refl, ap, ap₂, _∙_}
 use mathlib.Core.List.{List, _∷_}
@@ -14,7 +13,7 @@ part-of s at n =
     let e : at + 6 + n - (at + 6) ≡ n = omega arith in
     rw e
 
--- n bytes from place k on
+-- n bytes from offset k on
 module _ (s : List ℕ) (k n : ℕ) where
   part-byte : (i j : ℕ) → i < n → k + i ≡ j → getD (take n (drop k s)) i 0 ≡ getD s j 0
   part-byte i j h e = getD-take n (drop k s) i 0 h ∙ getD-drop k s i 0 ∙ ap (λ x. getD s x 0) e

@@ -1,6 +1,5 @@
--- Whether a record begins at a place: the walk from record to record, and what is known of a payload that is not refused.
--- Idea: the records from a place on are the one there and those from its end on.
--- Assumes nothing.
+-- Whether a record begins at an offset, found by going from record to record; and what holds of a payload that is not refused.
+-- Idea: the records from an offset on are the one there and those from its end on.
 use Prim.Native.Nat.{ℕ, zero, suc, _+_, _≤_, _<_}
 use mathlib.Core.Path.{_≡_, refl, sym, _∙_}
 use mathlib.Core.Bool.{Bool, true, false, not}
@@ -51,7 +50,7 @@ module _ (s : List ℕ) (at : ℕ) where
   unfolding recordAt recordsOf
   record-inside t = found-inside (length s) 0 (omega arith) t
 
-  -- a payload that is not refused is that of a whole record
+  -- a payload that is not refused belongs to a whole record
   pub payload-whole : eqb (payloadFault s at) 0 ≡ true → at + 6 + lengthAt s at ≤ length s
   unfolding payloadFault
   payload-whole t =
@@ -61,7 +60,7 @@ module _ (s : List ℕ) (at : ℕ) where
       let h = record-inside (not-false (recordAt s at) (b .0)) in
       uncut s at (omega arith) (c .0)
 
-  -- what comes back
+  -- what the call returns
   pub gives-none : eqb (payloadFault s at) 0 ≡ false → [] ≡ payloadGives s at
   unfolding payloadGives
   gives-none e = rw e

@@ -1,6 +1,5 @@
--- Bytes that were written out, read back: a number, words one after another, a record.
--- Idea: what lies from a place on is known, so each byte of it is; four digits below 256 spell one number.
--- Assumes nothing.
+-- Bytes that were written out, read back: a number, consecutive words, a record.
+-- Idea: the bytes from an offset on are known, so each of them is; four digits below 256 give one number.
 use Prim.Native.Nat.{ℕ, _+_, _*_, _-_, _/_, _%_, _≤_}
 use mathlib.Core.Path.{_≡_, refl, sym, ap, ap₂, _∙_}
 use mathlib.Core.Bool.{true}
@@ -16,7 +15,7 @@ use Rattle.trm_image.specs.Records.{le2, le4, lengthAt, kindAt, wordsAt}
 use Rattle.trm_image.specs.Written.{bytes2, bytes4, wordBytes, recordBytes}
 use Rattle.trm_image.proofs.Laws.Walk.{le4-drop}
 
--- what lies further on
+-- the bytes k further on
 pub further : (s : List ℕ) (at k : ℕ) {t : List ℕ} → drop at s ≡ t → drop (at + k) s ≡ drop k t
 further s at k e = sym (drop-drop k at s) ∙ ap (drop k) e
 
@@ -62,7 +61,7 @@ at-most-more a b (w ∷ ws) h t =
     both (leb w a) (allAtMost a ws)
     (λ p q. let x = leb-true w a p in le-leb w b (omega (arith, x, h)) &t at-most-more a b ws h q) t
 
--- a record of this kind and payload begins at this place, and `rest` lies behind it
+-- a record of this kind and payload begins at this offset, and `rest` follows it
 pub record Here (s : List ℕ) (at k : ℕ) (payload rest : List ℕ) : Type 0 where
   pub bytes : lengthAt s at ≡ length payload
   pub kind : kindAt s at ≡ k

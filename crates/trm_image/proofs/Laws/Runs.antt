@@ -1,6 +1,5 @@
--- Runs one after another to the end of an accepted image.
--- Idea: no record is at fault, so after a run there is a run or nothing.
--- Assumes nothing.
+-- The runs of an accepted image, one by one to its end.
+-- Idea: no record is at fault, so a run is followed by a run or by nothing.
 use Prim.Native.Nat.{ℕ, zero, suc, _+_, _≤_, _<_}
 use mathlib.Core.Path.{_≡_, refl, sym, ap, _∙_}
 use mathlib.Core.Bool.{Bool, true, false}
@@ -11,13 +10,13 @@ use lib.ListN.{length, drop}
 use lib.Dec.{eqb}
 use borrow.Author.Tests.{eqb-false}
 use Rattle.trm_image.specs.Records.{lengthAt, kindAt, begins}
-use Rattle.trm_image.specs.Refused.{countAt, lineAt, faultAt, firstFault}
+use Rattle.trm_image.specs.Refused.{countAt, lineByteAt, faultAt, firstFault}
 use Rattle.trm_image.specs.Meaning.{runAt, wordsIn, runsIn}
 use Rattle.trm_image.specs.Runs.{Runs}
 use Rattle.trm_image.proofs.Laws.Walk.{next, ended, fault-here, fault-later, whole-record}
 use Rattle.trm_image.proofs.Laws.Clean.{Clean, clean, Order, is-first, is-second, is-run, ordered, run-part}
 
--- a record where no fault is found has none itself, and none is found later
+-- if no fault is found from a record on, it has none itself and none is found after it
 module _ (n : ℕ) (s : List ℕ) (before at : ℕ) (h : at < length s)
     (free : firstFault n s before (begins 0 at (drop at s)) .number ≡ 0) where
   pub here-free : eqb (faultAt n s before at) 0 ≡ true
@@ -44,7 +43,7 @@ pub record Next (n : ℕ) (s : List ℕ) (at : ℕ) : Type 0 where
   pub whole : at + 15 ≤ length s
   pub one : 1 ≤ countAt s at
   pub most : countAt s at ≤ 65536
-  pub line : lineAt s at ≤ 7
+  pub lineByte : lineByteAt s at ≤ 7
   pub runs : Runs n s (at + 15)
   pub places : begins 0 at (drop at s) ≡ at ∷ begins 0 (at + 15) (drop (at + 15) s)
   pub list : runsIn s (begins 0 at (drop at s)) ≡ runAt s at ∷ runsIn s (begins 0 (at + 15) (drop (at + 15) s))
@@ -80,7 +79,7 @@ module _ (n : ℕ) (s : List ℕ) (at : ℕ) where
         whole = rw (← e) w;
         one = p .one;
         most = p .most;
-        line = p .line;
+        lineByte = p .lineByte;
         runs =
             record {
               before = kindAt s at;

@@ -1,6 +1,5 @@
 -- Every row of the tables of images and of payloads holds.
--- Idea: one test computes all rows, and a test that computes to true gives the equations.
--- Assumes nothing.
+-- Idea: one test computes all rows; if it computes to true, it gives the equations.
 use Prim.Native.Nat.{ℕ}
 use mathlib.Core.Path.{refl, ap}
 use mathlib.Core.List.{List, [], _∷_}
@@ -9,7 +8,7 @@ use Rattle.trm_word.specs.Address.{storeLengthOk}
 use Rattle.trm_core.specs.Refusals.{allAtMost}
 use Rattle.trm_laws.proofs.Table.{same, test, test-true}
 use Rattle.trm_image.specs.Records.{payloadAt, wordsAt, begins, recordsOf, among, recordAt}
-use Rattle.trm_image.specs.Refused.{cutShort, lengthWrong, countWrong, inOrder, wordWrong, lineWrong, faultAt, firstFault}
+use Rattle.trm_image.specs.Refused.{cutShort, lengthWrong, countWrong, inOrder, wordWrong, lineByteWrong, faultAt, firstFault}
 use Rattle.trm_image.specs.Refused.{imageFault, payloadFault}
 use Rattle.trm_image.specs.Promises.{payloadGives}
 use Rattle.trm_image.specs.Cases.{Case, cases, AllHold, CasesHold}
@@ -19,7 +18,7 @@ outcome : Case → List ℕ
 outcome c = imageFault (c .words) (c .bytes) .number ∷ imageFault (c .words) (c .bytes) .at ∷ []
 
 pub cases-hold : CasesHold
-unfolding cases AllHold outcome test same imageFault firstFault faultAt lineWrong wordWrong inOrder countWrong lengthWrong
+unfolding cases AllHold outcome test same imageFault firstFault faultAt lineByteWrong wordWrong inOrder countWrong lengthWrong
     cutShort recordsOf begins wordsAt allAtMost storeLengthOk
 cases-hold =
     test-true outcome (λ c. c .number ∷ c .at ∷ []) AllHold tt

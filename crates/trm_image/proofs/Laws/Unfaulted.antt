@@ -1,6 +1,5 @@
--- A record that was written out as the paper describes it has no fault.
--- Idea: its kind is known, so only the tests of that kind are left, and each is one of its bounds.
--- Assumes nothing.
+-- A record that was written out in the paper's format has no fault.
+-- Idea: its kind is known, so only the tests of that kind remain, and each is one of its bounds.
 use Prim.Native.Nat.{ℕ, _+_, _*_, _-_, _/_, _%_, _≤_}
 use mathlib.Core.Path.{_≡_, sym, ap, _∙_}
 use mathlib.Core.Bool.{true, false}
@@ -13,8 +12,8 @@ use Rattle.trm_word.specs.Address.{storeLengthOk}
 use Rattle.trm_core.specs.Refusals.{allAtMost, programOk}
 use Rattle.trm_laws.proofs.Tests.{all3}
 use Rattle.trm_image.specs.Records.{lengthAt, wordsAt}
-use Rattle.trm_image.specs.Refused.{cutShort, lengthWrong, countAt, lineAt, inputAt, countWrong, inOrder, wordWrong}
-use Rattle.trm_image.specs.Refused.{lineWrong, faultAt}
+use Rattle.trm_image.specs.Refused.{cutShort, lengthWrong, countAt, lineByteAt, inputAt, countWrong, inOrder, wordWrong}
+use Rattle.trm_image.specs.Refused.{lineByteWrong, faultAt}
 use Rattle.trm_image.specs.Meaning.{Run, runAt, payloadWords}
 use Rattle.trm_image.specs.Written.{bytes4, wordBytes}
 use Rattle.trm_image.proofs.Laws.Clean.{Clean}
@@ -23,7 +22,7 @@ use Rattle.trm_image.proofs.Laws.Readback.{Here, further, byte-back, le
 
 pub unfaulted : (n : ℕ) (s : List ℕ) (before at : ℕ) → Clean n s before at → faultAt n s before at ≡ 0
 unfolding faultAt
-unfaulted n s before at c = rw (c .whole, c .length, c .count, c .order, c .word, c .store, c .line)
+unfaulted n s before at c = rw (c .whole, c .length, c .count, c .order, c .word, c .store, c .lineByte)
 
 not-cut : (s : List ℕ) (at : ℕ) → at + 6 + lengthAt s at ≤ length s → cutShort s at ≡ false
 unfolding cutShort
@@ -49,7 +48,7 @@ module _ (n : ℕ) (legal : storeLengthOk n ≡ true) (s : List ℕ) (p rest : L
   program-read ok = words-read s 0 1 p rest h (at-most-more 0x3FFFF 4294967295 p (omega arith) ok)
 
   program-clean : 1 ≤ length p → length p ≤ 4096 → allAtMost 0x3FFFF p ≡ true → Clean n s 0 0
-  unfolding lengthWrong countWrong inOrder wordWrong lineWrong
+  unfolding lengthWrong countWrong inOrder wordWrong lineByteWrong
   program-clean one most ok =
       let l = words-long s 0 1 p rest h in
       record {
@@ -65,7 +64,7 @@ module _ (n : ℕ) (legal : storeLengthOk n ≡ true) (s : List ℕ) (p rest : L
         order = rw (h .kind);
         word = rw (h .kind, program-read ok, ok);
         store = legal;
-        line = rw (h .kind);
+        lineByte = rw (h .kind);
       }
 
   pub program-unfaulted : programOk p ≡ true → (faultAt n s 0 0 ≡ 0) × (payloadWords s 0 ≡ p)
@@ -77,7 +76,7 @@ module _ (n : ℕ) (legal : storeLengthOk n ≡ true) (s : List ℕ) (p rest : L
 
 module _ (n : ℕ) (legal : storeLengthOk n ≡ true) (s : List ℕ) (at : ℕ) (ws rest : List ℕ) (h : Here s at 2 (wordBytes ws) rest) where
   first-clean : length ws ≤ n → Clean n s 1 at
-  unfolding lengthWrong countWrong inOrder wordWrong lineWrong
+  unfolding lengthWrong countWrong inOrder wordWrong lineByteWrong
   first-clean most =
       let c = words-count s at 2 ws rest h in
       record {
@@ -87,7 +86,7 @@ module _ (n : ℕ) (legal : storeLengthOk n ≡ true) (s : List ℕ) (at : ℕ) 
         order = rw (h .kind);
         word = rw (h .kind);
         store = legal;
-        line = rw (h .kind);
+        lineByte = rw (h .kind);
       }
 
   pub first-unfaulted : length ws ≤ n → faultAt n s 1 at ≡ 0
@@ -95,12 +94,12 @@ module _ (n : ℕ) (legal : storeLengthOk n ≡ true) (s : List ℕ) (at : ℕ) 
 
 -- a run
 abbrev pub runPayload : Run → List ℕ
-runPayload r = bytes4 (r .count) ++ r .line ∷ bytes4 (r .input)
+runPayload r = bytes4 (r .count) ++ r .lineByte ∷ bytes4 (r .input)
 
 pub record Bounds (r : Run) : Type 0 where
   pub one : 1 ≤ r .count
   pub most : r .count ≤ 65536
-  pub line : r .line ≤ 7
+  pub lineByte : r .lineByte ≤ 7
   pub input : r .input ≤ 4294967295
 
 module _ (n : ℕ) (legal : storeLengthOk n ≡ true) (s : List ℕ) (at : ℕ) (r : Run) (rest : List ℕ)
@@ -108,10 +107,10 @@ module _ (n : ℕ) (legal : storeLengthOk n ≡ true) (s : List ℕ) (at : ℕ) 
   count-back : countAt s at ≡ r .count
   count-back = le4-back s (at + 6) (r .count) (omega (arith, b .most)) (h .inner)
 
-  line-back : lineAt s at ≡ r .line
-  line-back =
+  line-byte-back : lineByteAt s at ≡ r .lineByte
+  line-byte-back =
       let e : at + 6 + 4 ≡ at + 10 = omega arith in
-      byte-back s (at + 10) (r .line) (ap (λ k. drop k s) (sym e) ∙ further s (at + 6) 4 (h .inner))
+      byte-back s (at + 10) (r .lineByte) (ap (λ k. drop k s) (sym e) ∙ further s (at + 6) 4 (h .inner))
 
   input-back : inputAt s at ≡ r .input
   input-back =
@@ -119,10 +118,10 @@ module _ (n : ℕ) (legal : storeLengthOk n ≡ true) (s : List ℕ) (at : ℕ) 
       le4-back s (at + 11) (r .input) (b .input) (ap (λ k. drop k s) (sym e) ∙ further s (at + 6) 5 (h .inner))
 
   pub run-back : runAt s at ≡ r
-  run-back = rw (count-back, line-back, input-back)
+  run-back = rw (count-back, line-byte-back, input-back)
 
   run-clean : (before : ℕ) → eqb before 0 ≡ false → Clean n s before at
-  unfolding lengthWrong countWrong inOrder wordWrong lineWrong
+  unfolding lengthWrong countWrong inOrder wordWrong lineByteWrong
   run-clean before z =
       record {
         whole = not-cut s at (h .whole);
@@ -132,7 +131,7 @@ module _ (n : ℕ) (legal : storeLengthOk n ≡ true) (s : List ℕ) (at : ℕ) 
         order = rw (h .kind, z);
         word = rw (h .kind);
         store = legal;
-        line = rw (h .kind, line-back, le-ltb 7 (r .line) (b .line));
+        lineByte = rw (h .kind, line-byte-back, le-ltb 7 (r .lineByte) (b .lineByte));
       }
 
   pub run-unfaulted : (before : ℕ) → eqb before 0 ≡ false → faultAt n s before at ≡ 0

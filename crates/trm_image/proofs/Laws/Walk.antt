@@ -1,6 +1,5 @@
--- Record after record: where the next one begins, and the first fault from there on.
--- Idea: the records from a place on are the one there and those from its end on.
--- Assumes nothing.
+-- Record by record: where the next one begins, and the first fault from there on.
+-- Idea: the records from an offset on are the one there and those from its end on.
 use Prim.Native.Nat.{ℕ, zero, suc, _+_, _-_, _≤_, _<_}
 use mathlib.Core.Path.{_≡_, refl, sym, ap, _∙_}
 use mathlib.Core.Bool.{true, false}

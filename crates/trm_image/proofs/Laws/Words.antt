@@ -1,6 +1,5 @@
--- Words one after another, tested against a limit.
+-- Consecutive words compared with a limit.
 -- Idea: the words from the i-th on are that word and those from the next on.
--- Assumes nothing.
 use Prim.Native.Nat.{ℕ, suc, _+_, _*_, _-_, _≤_, _<_}
 use mathlib.Core.Path.{_≡_}
 use mathlib.Core.Bool.{true, false}

@@ -1,6 +1,5 @@
--- The records of an accepted image, written out by what they hold.
--- Idea: each record is its header and its payload; runs by induction on how many bytes are left.
--- Assumes nothing.
+-- The records of an accepted image are their content written out.
+-- Idea: each record is its header and its payload; runs by induction on the number of bytes left.
 use Prim.Native.Nat.{ℕ, zero, suc, _+_, _*_, _/_, _%_, _≤_, _<_}
 use mathlib.Core.Path.{_≡_, sym, ap, _∙_}
 use mathlib.Core.Bool.{true}
@@ -12,14 +11,14 @@ use borrow.Author.Tests.{le-leb}
 use Rattle.trm_core.specs.Refusals.{allAtMost}
 use Rattle.trm_laws.proofs.Tests.{_&t_}
 use Rattle.trm_image.specs.Records.{lengthAt, kindAt, begins}
-use Rattle.trm_image.specs.Refused.{countAt, lineAt, inputAt}
+use Rattle.trm_image.specs.Refused.{countAt, lineByteAt, inputAt}
 use Rattle.trm_image.specs.Meaning.{payloadWords, runsIn}
 use Rattle.trm_image.specs.Written.{bytes2, bytes4, wordBytes, recordBytes, runBytes, runsOk}
 use Rattle.trm_image.specs.Runs.{Runs}
 use Rattle.trm_image.proofs.Laws.Bytes.{one-byte, two-bytes, four-bytes, word-bytes, le4-small, length-wordBytes}
 use Rattle.trm_image.proofs.Laws.Accepted.{Next, runs-next, runs-end, length-wordsAt}
 
--- the words of a payload of whole words
+-- the words of a payload whose length is a multiple of 4
 pub length-payload : (s : List ℕ) (at : ℕ) → length (payloadWords s at) ≡ lengthAt s at / 4
 length-payload s at = length-wordsAt s (at + 6) (lengthAt s at / 4)
 
@@ -47,7 +46,7 @@ module _ (s : List ℕ) (small : allAtMost 255 s ≡ true) where
       ∙ ap (λ k. wordBytes (payloadWords s at) ++ drop (at + 6 + k) s) q)
 
   run-payload : (at : ℕ) → at + 15 ≤ length s
-      → drop (at + 6) s ≡ (bytes4 (countAt s at) ++ lineAt s at ∷ bytes4 (inputAt s at)) ++ drop (at + 15) s
+      → drop (at + 6) s ≡ (bytes4 (countAt s at) ++ lineByteAt s at ∷ bytes4 (inputAt s at)) ++ drop (at + 15) s
   run-payload at h =
       let e : at + 6 + 4 ≡ at + 10 = omega arith in
       let f : at + 10 + 1 ≡ at + 11 = omega arith in
@@ -56,21 +55,21 @@ module _ (s : List ℕ) (small : allAtMost 255 s ≡ true) where
       ∙ ap (λ k. bytes4 (countAt s at) ++ drop k s) e
       ∙ ap (λ t. bytes4 (countAt s at) ++ t)
       (one-byte s small (at + 10) (omega arith)
-      ∙ ap (λ k. lineAt s at ∷ drop k s) f
-      ∙ ap (λ t. lineAt s at ∷ t)
+      ∙ ap (λ k. lineByteAt s at ∷ drop k s) f
+      ∙ ap (λ t. lineByteAt s at ∷ t)
       (four-bytes s small (at + 11) (omega arith) ∙ ap (λ k. bytes4 (inputAt s at) ++ drop k s) g))
 
   run-record : (at : ℕ) → kindAt s at ≡ 3 → lengthAt s at ≡ 9 → at + 15 ≤ length s
-      → drop at s ≡ recordBytes 3 (bytes4 (countAt s at) ++ lineAt s at ∷ bytes4 (inputAt s at)) ++ drop (at + 15) s
+      → drop at s ≡ recordBytes 3 (bytes4 (countAt s at) ++ lineByteAt s at ∷ bytes4 (inputAt s at)) ++ drop (at + 15) s
   run-record at k l h =
       let e : at + 6 + lengthAt s at ≡ at + 15 = omega (arith, l) in
-      let payload = bytes4 (countAt s at) ++ lineAt s at ∷ bytes4 (inputAt s at) in
+      let payload = bytes4 (countAt s at) ++ lineByteAt s at ∷ bytes4 (inputAt s at) in
       record-bytes at payload (omega arith) (sym l)
       (run-payload at h ∙ ap (λ j. payload ++ drop j s) (sym e))
       ∙ ap (λ j. recordBytes (kindAt s at) payload ++ drop j s) e
       ∙ ap (λ j. recordBytes j payload ++ drop (at + 15) s) k
 
--- the rest of the image from this place on, runs only
+-- the rest of the image from this offset on, which holds only runs
 pub record Left (s : List ℕ) (at : ℕ) : Type 0 where
   pub bytes : drop at s ≡ runBytes (runsIn s (begins 0 at (drop at s)))
   pub ok : runsOk (runsIn s (begins 0 at (drop at s))) ≡ true
@@ -87,12 +86,12 @@ module _ (n : ℕ) (s : List ℕ) (small : allAtMost 255 s ≡ true) where
   left-next at x more =
       record {
         bytes = run-record s small at (x .kind) (x .nine) (x .whole)
-            ∙ ap (λ t. recordBytes 3 (bytes4 (countAt s at) ++ lineAt s at ∷ bytes4 (inputAt s at)) ++ t) (more .bytes)
+            ∙ ap (λ t. recordBytes 3 (bytes4 (countAt s at) ++ lineByteAt s at ∷ bytes4 (inputAt s at)) ++ t) (more .bytes)
             ∙ sym (ap runBytes (x .list));
         ok = ap runsOk (x .list)
             ∙ (le-leb 1 (countAt s at) (x .one)
             &t le-leb (countAt s at) 65536 (x .most)
-            &t le-leb (lineAt s at) 7 (x .line)
+            &t le-leb (lineByteAt s at) 7 (x .lineByte)
             &t le-leb (inputAt s at) 4294967295 (le4-small s small (at + 11))
             &t more .ok);
       }

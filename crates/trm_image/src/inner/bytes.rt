@@ -1,6 +1,6 @@
-// Bytes and little-endian numbers of an image, at any place; past the end all is 0.
+// Reading bytes and little-endian numbers of an image at any offset; bytes past the end read as 0.
 // Paper: "Words are 4 bytes, little-endian like the rest".
-// What they mean is in specs/Records.antt.
+// specs/Records.antt defines the numbers read.
 ghost use mathlib.Core.Path.{_≡_};
 ghost use Prim.Native.Nat.{_+_, _*_, _≤_};
 ghost use lib.ListN.{getD};
@@ -15,14 +15,14 @@ pub fn byte_at(s: &[u8], at: usize) -> u8
     0
 }
 
-// A byte as a word: the cast is proved here once.
+// A byte as a u32: the cast, proved here once.
 fn wide(x: u8) -> u32
     ensures { λ r. ⌜ r ≡ x ⌝ }
 {
     x as u32
 }
 
-// Four bytes, the lowest first.
+// Four bytes as a number, the lowest byte first.
 fn joined(a: u8, b: u8, c: u8, d: u8) -> u32
     ensures { λ r. ⌜ r ≡ a + 256 * b + 65536 * c + 16777216 * d ⌝ }
 {

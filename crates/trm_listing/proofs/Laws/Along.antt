@@ -1,6 +1,5 @@
--- The listing goes along the runs of an image: by the clocks of the run in hand, by the next record.
--- Idea: the pins to come are those of the run in hand, and then those of the records from the next place on.
--- Assumes nothing.
+-- A listing continued along the runs of an image: by the clocks of the current run, by the next record.
+-- Idea: the inputs to come are those of the current run, then those of the records from the next offset on.
 use Prim.Native.Nat.{ℕ, _+_, _*_, _-_, _≤_, _<_}
 use mathlib.Core.Path.{_≡_, refl, sym, ap, _∙_, subst}
 use mathlib.Core.List.{List, _++_}
@@ -9,14 +8,14 @@ use lib.ListN.{length, take, drop, replicate}
 use Rattle.trm_cache.specs.Cache.{Cache}
 use Rattle.trm_core.specs.Record.{Lent}
 use Rattle.trm_image.specs.Records.{begins}
-use Rattle.trm_image.specs.Refused.{countAt, lineAt, inputAt}
+use Rattle.trm_image.specs.Refused.{countAt, lineByteAt, inputAt}
 use Rattle.trm_image.specs.Meaning.{runsIn}
 use Rattle.trm_image.proofs.Laws.Runs.{Next, runs-next, runs-end}
-use Rattle.trm_lines.specs.declared.inner.listed.Listed.{Listed}
+use Rattle.trm_list_rows.specs.declared.inner.listed.Listed.{Listed}
 use Rattle.trm_listing.specs.declared.inner.runs.Place.{Place}
-use Rattle.trm_lines.specs.Lines.{endLine}
+use Rattle.trm_list_rows.specs.Rows.{endRow}
 use Rattle.trm_listing.specs.Listing.{pinsOfRuns}
-use Rattle.trm_lines.specs.Onward.{textFrom, lentOf, Onward}
+use Rattle.trm_list_rows.specs.Onward.{textFrom, lentOf, Onward}
 use Rattle.trm_listing.specs.Rest.{pinsAt, pinsLeft, Stands, Along}
 
 module _ (s p : List ℕ) where
@@ -24,10 +23,10 @@ module _ (s p : List ℕ) where
       → Along s p q x b q″ x″ b″
   along-then f g = record { stands = g .stands; text = g .text ∙ f .text; long = g .long ∙ f .long; stored = g .stored ∙ f .stored }
 
-  -- the clocks of the run in hand; those that are gone are in the clock count
+  -- the clocks of the current run; those that have run are in the clock count
   pub along-clocks : (q : Place) (x : Lent) (b : List ℕ) (l : Listed) (x′ : Lent) (b′ : List ℕ) → Stands s p q x b
       → Onward p (pinsAt q) (q .listed) x b l x′ b′
-      → Along s p q x b (record { listed = l; at = q .at; line = q .line; input = q .input }) x′ b′
+      → Along s p q x b (record { listed = l; at = q .at; pins = q .pins; input = q .input }) x′ b′
   unfolding pinsLeft
   along-clocks q x b l x′ b′ st o = record {
     stands = record {
@@ -46,7 +45,7 @@ module _ (s p : List ℕ) where
   nextPlace q = record {
     listed = record { scalars = q .listed .scalars; left = countAt s (q .at); took = q .listed .took; len = q .listed .len };
     at = q .at + 15;
-    line = lineAt s (q .at);
+    pins = lineByteAt s (q .at);
     input = inputAt s (q .at);
   }
 
@@ -67,7 +66,7 @@ module _ (s p : List ℕ) where
             shaped = a .shaped;
             room = omega (arith, room);
             few = a .few;
-            low = n .line;
+            low = n .lineByte;
           };
           runs = n .runs;
           small = st .small;
@@ -81,7 +80,7 @@ module _ (s p : List ℕ) where
         stored = refl;
       }
 
-  -- as the code makes it
+  -- the same, in the form of the code
   pub along-next : (q q′ : Place) (rs : List ℕ) (ca : Cache) (st b : List ℕ) → q′ ≡ nextPlace q
       → Stands s p q (lentOf (q .listed) rs ca st) b → q .listed .left ≡ 0 → q .at < length s
       → Along s p q (lentOf (q .listed) rs ca st) b q′ (lentOf (q′ .listed) rs ca st) b
@@ -92,8 +91,8 @@ module _ (s p : List ℕ) where
   pub along-none : (q : Place) (x : Lent) (b : List ℕ) → Stands s p q x b → Along s p q x b q x b
   along-none q x b h = record { stands = h; text = refl; long = refl; stored = refl }
 
-  -- nothing is left but the last line
+  -- only the last row is left
   pub along-end : (q : Place) (x : Lent) → q .listed .left ≡ 0 → length s ≤ q .at
-      → textFrom p x (q .listed .took) (pinsLeft s q) ≡ endLine x
+      → textFrom p x (q .listed .took) (pinsLeft s q) ≡ endRow x
   unfolding pinsLeft pinsOfRuns textFrom
   along-end q x none over = rw (none, runs-end s (q .at) over)

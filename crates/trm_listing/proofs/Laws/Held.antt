@@ -1,6 +1,5 @@
--- A run whose clocks are all held: the clocks and held counts go up, and nothing is written.
--- Idea: by the number of clocks.
--- Assumes nothing.
+-- A held run: the clock and held counts go up by its clocks, and nothing is written.
+-- Idea: induction on the number of clocks.
 use Prim.Native.Nat.{ℕ, zero, suc, _+_, _-_, _≤_}
 use mathlib.Core.Path.{_≡_, refl, sym, ap, _∙_, subst}
 use mathlib.Core.Bool.{true}
@@ -14,12 +13,12 @@ use Rattle.trm_cache.specs.Cache.{Cache}
 use Rattle.trm_core.specs.declared.record.Scalars.{Scalars}
 use Rattle.trm_core.specs.Record.{Lent, whole, waited}
 use Rattle.trm_core.specs.Clock.{clockOf}
-use Rattle.trm_ahead.proofs.Laws.Here.{held-here}
-use Rattle.trm_lines.specs.declared.inner.listed.Listed.{Listed}
-use Rattle.trm_lines.specs.Onward.{textFrom, lentOf, Able, Onward}
+use Rattle.trm_run_phases.proofs.Laws.Here.{held-here}
+use Rattle.trm_list_rows.specs.declared.inner.listed.Listed.{Listed}
+use Rattle.trm_list_rows.specs.Onward.{textFrom, lentOf, Able, Onward}
 use Rattle.trm_listing.specs.Rest.{heldBy}
-use Rattle.trm_lines.proofs.Laws.Text.{text-held}
-use Rattle.trm_lines.proofs.Laws.Onward.{able-clock}
+use Rattle.trm_list_rows.proofs.Laws.Text.{text-held}
+use Rattle.trm_list_rows.proofs.Laws.Onward.{able-clock}
 
 held-none : (c : Scalars) → c ≡ heldBy c 0
 held-none c =
@@ -33,7 +32,7 @@ held-more c n =
     let f : c .counts .held + 1 + n ≡ c .counts .held + suc n = omega arith in
     rw (e, f)
 
-module _ (p : List ℕ) (i : Pins) (f : stalled (i .line) ≡ true) (rs : List ℕ) (ca : Cache) (s : List ℕ) (took : ℕ) where
+module _ (p : List ℕ) (i : Pins) (f : stalled (i .lineByte) ≡ true) (rs : List ℕ) (ca : Cache) (s : List ℕ) (took : ℕ) where
   abbrev place : Scalars → Lent
   place c = record { machine = whole c rs ca; store = s }
 
@@ -59,7 +58,7 @@ module _ (p : List ℕ) (i : Pins) (f : stalled (i .line) ≡ true) (rs : List �
       ∙ ap (λ d. textFrom p (place d) took is) (held-more c n)
 
 pub onward-held : (p : List ℕ) (i : Pins) (l : Listed) (rs : List ℕ) (ca : Cache) (s b : List ℕ)
-    → Able p (lentOf l rs ca s) (l .took) (l .left) i → stalled (i .line) ≡ true → l .len ≤ length b
+    → Able p (lentOf l rs ca s) (l .took) (l .left) i → stalled (i .lineByte) ≡ true → l .len ≤ length b
     → Onward p i l (lentOf l rs ca s) b
     (record { scalars = heldBy (l .scalars) (l .left); left = 0; took = l .took; len = l .len })
     (record { machine = whole (heldBy (l .scalars) (l .left)) rs ca; store = s }) b

@@ -1,6 +1,5 @@
--- The store of an accepted image: with a record of kind 2, and without.
--- Idea: what the image's reader says of its second record.
--- Assumes nothing.
+-- The store of an accepted image, with a record of kind 2 and without.
+-- Idea: the laws of trm_image on the second record of an accepted image.
 use Prim.Native.Nat.{ℕ, _+_, _-_, _/_, _≤_}
 use mathlib.Core.Path.{_≡_, refl, sym, ap, _∙_, subst}
 use mathlib.Core.Logic.{_≢_}
@@ -66,7 +65,7 @@ module _ (s st : List ℕ) (h : Loadable s st) where
             list = rw (f, e) (second .list);
           }
 
-      -- as the code reads them, from the payload
+      -- as the code reads them, from the payload slice
       module _ (part : List ℕ) (p : part ≡ payloadAt s at) where
         pub part-long : length part ≡ lengthAt s at
         part-long = ap length p ∙ payload-length s at second-whole

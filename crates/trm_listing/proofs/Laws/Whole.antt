@@ -1,6 +1,5 @@
--- The whole output: the first piece and what is still to be written then.
--- Idea: what is to be written clock by clock is all lines and then the last one.
--- Assumes nothing.
+-- The whole output is the first piece and what is still to be written after it.
+-- Idea: the text clock by clock is all rows and then the last one.
 use Prim.Native.Nat.{ℕ, _-_, _/_, _≤_}
 use mathlib.Core.Path.{_≡_, refl, sym, ap, _∙_, subst}
 use mathlib.Core.Bool.{false, cond}
@@ -16,52 +15,52 @@ use Rattle.trm_core.specs.Record.{Lent, resetOf}
 use Rattle.trm_core.specs.Clock.{clockOf}
 use Rattle.trm_core.specs.Claims.{Kept}
 use Rattle.trm_core.specs.Refusals.{resetRefusal}
-use Rattle.trm_plan.proofs.Laws.Facts.{paper-ok}
+use Rattle.trm_clock_laws.proofs.Laws.Facts.{paper-ok}
 use Rattle.trm_core.proofs.Laws.Reset.{reset-kept}
 use Rattle.trm_image.specs.Records.{lengthAt, payloadAt, wordsAt, begins}
 use Rattle.trm_image.specs.Refused.{imageFault}
 use Rattle.trm_image.specs.Meaning.{Image, imageOf, runsIn}
 use Rattle.trm_image.proofs.Laws.Accepted.{Head, accepted-head, length-wordsAt}
 use Rattle.trm_image.proofs.Laws.Parts.{payload-words, payload-length}
-use Rattle.trm_text.specs.Lines.{Line, lineBytes, linesBytes, header, refusedBytes}
-use Rattle.trm_text.specs.Wrote.{Wrote}
-use Rattle.trm_lines.specs.Lines.{lineOf, tookAfter, linesFrom, endLine}
-use Rattle.trm_listing.specs.Listing.{pinsOfRuns, startOf, linesOf, finalOf}
+use Rattle.trm_list_text.specs.Rows.{Row, rowBytes, rowsBytes, header, refusedBytes}
+use Rattle.trm_list_text.specs.Wrote.{Wrote}
+use Rattle.trm_list_rows.specs.Rows.{rowOf, tookAfter, rowsFrom, endRow}
+use Rattle.trm_listing.specs.Listing.{pinsOfRuns, startOf, rowsOf, finalOf}
 use Rattle.trm_listing.specs.Listing.{listingOf, outputOf}
-use Rattle.trm_lines.specs.Onward.{textFrom}
+use Rattle.trm_list_rows.specs.Onward.{textFrom}
 use Rattle.trm_listing.specs.Rest.{Stands}
 use Rattle.trm_listing.specs.Loaded.{Loaded}
 use Rattle.trm_listing.specs.Pieces.{programAfter}
 
-lines-append : (ls ms : List Line) → linesBytes (ls ++ ms) ≡ linesBytes ls ++ linesBytes ms
-unfolding linesBytes
-lines-append [] ms = refl
-lines-append (l ∷ ls) ms = ap (λ t. lineBytes l ++ t) (lines-append ls ms) ∙ sym (append-assoc (lineBytes l) (linesBytes ls)
-    (linesBytes ms))
+rows-append : (ls ms : List Row) → rowsBytes (ls ++ ms) ≡ rowsBytes ls ++ rowsBytes ms
+unfolding rowsBytes
+rows-append [] ms = refl
+rows-append (l ∷ ls) ms = ap (λ t. rowBytes l ++ t) (rows-append ls ms) ∙ sym (append-assoc (rowBytes l) (rowsBytes ls)
+    (rowsBytes ms))
 
 text-all : (p : List ℕ) (is : List Pins) (x : Lent) (took : ℕ)
-    → textFrom p x took is ≡ linesBytes (linesFrom p x took is) ++ endLine (endOf x (clocks (clockOf paperGeometry p) x is))
-unfolding textFrom linesFrom linesBytes clocks endOf
+    → textFrom p x took is ≡ rowsBytes (rowsFrom p x took is) ++ endRow (endOf x (clocks (clockOf paperGeometry p) x is))
+unfolding textFrom rowsFrom rowsBytes clocks endOf
 text-all p [] x took = refl
 text-all p (i ∷ is) x took =
     let after = clockOf paperGeometry p x i .state in
     let t = tookAfter p x i took in
-    let e = endLine (endOf after (clocks (clockOf paperGeometry p) after is)) in
-    ap (λ r. linesBytes (lineOf p x i took) ++ r) (text-all p is after t)
-    ∙ sym (append-assoc (linesBytes (lineOf p x i took)) (linesBytes (linesFrom p after t is)) e)
-    ∙ ap (λ r. r ++ e) (sym (lines-append (lineOf p x i took) (linesFrom p after t is)))
+    let e = endRow (endOf after (clocks (clockOf paperGeometry p) after is)) in
+    ap (λ r. rowsBytes (rowOf p x i took) ++ r) (text-all p is after t)
+    ∙ sym (append-assoc (rowsBytes (rowOf p x i took)) (rowsBytes (rowsFrom p after t is)) e)
+    ∙ ap (λ r. r ++ e) (sym (rows-append (rowOf p x i took) (rowsFrom p after t is)))
 
 listing-text : (I : Image) → listingOf I ≡ header ++ textFrom (I .program) (startOf (I .first)) 0 (pinsOfRuns (I .runs))
-unfolding listingOf linesOf finalOf
+unfolding listingOf rowsOf finalOf
 listing-text I =
-    append-assoc header (linesBytes (linesFrom (I .program) (startOf (I .first)) 0 (pinsOfRuns (I .runs)))) _
+    append-assoc header (rowsBytes (rowsFrom (I .program) (startOf (I .first)) 0 (pinsOfRuns (I .runs)))) _
     ∙ ap (λ t. header ++ t) (sym (text-all (I .program) (pinsOfRuns (I .runs)) (startOf (I .first)) 0))
 
 reset-clocks : (st : List ℕ) → resetOf paperGeometry st .scalars .counts .clocks ≡ 0
 unfolding resetOf
 reset-clocks st = refl
 
--- what an accepted image is loaded to
+-- what an accepted image leaves in the arrays
 pub taken : (n : ℕ) (new old st : List ℕ) → n ≡ 0 → st ≡ new → st ≡ cond (eqb n 0) new old
 taken n new old st z e = rw z e
 
@@ -94,7 +93,7 @@ module _ (s : List ℕ) where
         let z = length-replicate {A = ℕ} (4096 - n) 0 in
         ap length f ∙ omega (arith, a, w, z, e, h)
 
-    -- as the code reads them, from the payload
+    -- as the code reads them, from the payload slice
     module _ (part : List ℕ) (e : part ≡ payloadAt s 0) where
       pub part-long : length part ≡ lengthAt s 0
       part-long = ap length e ∙ payload-length s 0 (accepted-head 2048 s ok .whole)
@@ -108,15 +107,16 @@ module _ (s : List ℕ) where
 
     module _ (p : List ℕ) (is : p ≡ imageOf s .program) (m : core.Machine) (st : List ℕ) (reset : m ≡ resetOf paperGeometry st) (at : ℕ)
         (loaded : Loaded s st at) where
-      pub output-begun : (left : ℕ) (line : ℕ) (input : ℕ) → left ≡ 0 → (len : ℕ) (b b′ : List ℕ) → Wrote b 0 header b′ len
+      pub output-begun : (left : ℕ) (lineByte : ℕ) (input : ℕ) → left ≡ 0 → (len : ℕ) (b b′ : List ℕ) → Wrote b 0 header b′ len
           → outputOf s ≡ take len b′ ++ textFrom p (record { machine = m; store = st }) 0
-          (replicate left (record { line = line; input = input }) ++ pinsOfRuns (runsIn s (begins 0 at (drop at s))))
+          (replicate left (record { lineByte = lineByte; input = input }) ++ pinsOfRuns (runsIn s (begins 0 at (drop at s))))
       unfolding outputOf startOf
-      output-begun left line input none len b b′ w =
+      output-begun left lineByte input none len b b′ w =
           rw (ok, none, w .text, is, reset, ← loaded .list, loaded .store) (listing-text (imageOf s))
 
       pub begun-stands : length st ≡ 2048
-          → Stands s p (record { listed = record { scalars = m .scalars; left = 0; took = 0; len = 0 }; at = at; line = 0; input = 0 })
+          → Stands s p
+          (record { listed = record { scalars = m .scalars; left = 0; took = 0; len = 0 }; at = at; pins = 0; input = 0 })
           (record { machine = m; store = st }) []
       unfolding resetRefusal
       begun-stands long =

@@ -1,11 +1,11 @@
-// The last line of a listing.
+// The last row of a listing.
 // Paper: "`end` ..", the clock count and the counts of held clocks, refills and write-backs.
-// It waits for the next piece where there is no room for it.
+// If there is no room for it, the next piece has it.
 ghost use Prim.Native.Nat.{_≤_};
 ghost use lib.ListN.{length};
 ghost use Rattle.trm_listing.specs.Pieces.{EndHolds};
 use crate::inner::runs::Place;
-use trm_text::inner::lines;
+use trm_list_text::inner::row_text;
 
 // How far the buffer is filled, and whether the listing is over.
 pub struct Ended {
@@ -31,7 +31,7 @@ pub fn put_last(q: Place, buf: &mut [u8]) -> Ended
         };
     }
     let c = l.scalars;
-    let len = lines::put_end(
+    let len = row_text::put_end(
         buf,
         l.len,
         c.counts.clocks,

@@ -1,6 +1,6 @@
-// The listing of an image, piece by piece: the first puts its bytes into the buffer, each other the next ones.
+// The listing of an image in pieces: each call writes the next bytes to the buffer.
 // Paper: "reads an image .. with a store of 2,048 words, checks it whole, and runs it".
-// The program is checked once, by the image's check; words are read from payloads; a piece is written out before the next is asked for.
+// The program is checked once, by the check of the image; words are read from payloads; the caller takes each piece before the next call.
 ghost use mathlib.Core.Path.{_≡_};
 ghost use Prim.Native.Nat.{_≤_};
 ghost use lib.ListN.{length};
@@ -9,31 +9,31 @@ ghost use Rattle.trm_listing.specs.Pieces.{Ready, StartHolds, PieceHolds
 use crate::inner::finish;
 use crate::inner::runs;
 use crate::inner::runs::Place;
-use trm_engine::inner::start as reset;
-use trm_engine::machine::Machine;
 use trm_image::inner::bytes;
-use trm_image::inner::number;
-use trm_image::inner::part;
-use trm_image::inner::words as load;
+use trm_image::inner::fault_number;
+use trm_image::inner::load_words as load;
+use trm_image::inner::payload_part;
 use trm_image::reader;
-use trm_lines::inner::listed::Listed;
-use trm_text::inner::lines;
+use trm_list_rows::inner::listed::Listed;
+use trm_list_text::inner::row_text;
+use trm_run_machine::inner::zero_record as reset;
+use trm_run_machine::machine::Machine;
 
-// The machine, the words of its program, where the next record begins; of the run in hand the clocks left, line byte and input word;
-// the unheld clocks of the word in flight; how far the buffer is filled, and whether the listing is over.
+// The machine; the number of its program's words; where the next record begins; of the current run the clocks left, line byte and input
+// word; the unheld clocks of the word in flight; how far the buffer is filled, and whether the listing is over.
 pub struct Listing {
     pub machine: Machine,
     pub words: usize,
     pub at: usize,
     pub left: usize,
-    pub line: u8,
+    pub pins: u8,
     pub input: u32,
     pub took: u64,
     pub len: usize,
     pub over: bool,
 }
 
-// The store as an accepted image gives it, and where its first run begins.
+// Loads the first data words of an accepted image into the store; returns where its first run begins.
 fn load_store(image: &[u8], store: &mut [u32]) -> usize
     requires { ⌜ Loadable (now image) (now store) ⌝ }
     ensures { λ r. ⌜ Loaded (now (image .entry)) (now (store .exit)) r ⌝ }
@@ -43,12 +43,12 @@ fn load_store(image: &[u8], store: &mut [u32]) -> usize
         load::load_words(image, at, 0, store);
         return at;
     }
-    let payload = part::part_at(image, at);
+    let payload = payload_part::part_at(image, at);
     load::load_words(payload, 0, payload.len() / 4, store);
     at + 6 + payload.len()
 }
 
-// The image is checked whole; then program and store are loaded and the header is put, or the line of the refusal.
+// Checks the whole image; then loads program and store and writes the header, or writes the row of the refusal.
 pub fn first_piece(image: &[u8], program: &mut [u32], store: &mut [u32], buf: &mut [u8]) -> Listing
     requires { ⌜ (length (now program) ≡ 4096) × (length (now store) ≡ 2048) × (128 ≤ length (now buf)) ⌝ }
     ensures { λ r. ⌜ StartHolds (now (image .entry)) (now (program .entry)) (now (store .entry)) (now (buf .entry)) r
@@ -57,32 +57,37 @@ pub fn first_piece(image: &[u8], program: &mut [u32], store: &mut [u32], buf: &m
     let checked = reader::check(image, 2048);
     let fault = checked.fault;
     if !reader::accepted(fault) {
-        let len = lines::put_refused(buf, 0, number::number_of(fault) as u64, checked.at as u64);
+        let len = row_text::put_refused(
+            buf,
+            0,
+            fault_number::number_of(fault) as u64,
+            checked.at as u64,
+        );
         let none = reset::zero_record(store);
         return Listing {
             machine: none,
             words: 0,
             at: 0,
             left: 0,
-            line: 0,
+            pins: 0,
             input: 0,
             took: 0,
             len: len,
             over: true,
         };
     }
-    let payload = part::part_at(image, 0);
+    let payload = payload_part::part_at(image, 0);
     let words = payload.len() / 4;
     load::load_words(payload, 0, words, program);
     let at = load_store(image, store);
     let machine = reset::zero_record(store);
-    let len = lines::put_header(buf, 0);
+    let len = row_text::put_header(buf, 0);
     Listing {
         machine: machine,
         words: words,
         at: at,
         left: 0,
-        line: 0,
+        pins: 0,
         input: 0,
         took: 0,
         len: len,
@@ -90,7 +95,7 @@ pub fn first_piece(image: &[u8], program: &mut [u32], store: &mut [u32], buf: &m
     }
 }
 
-// The next piece, from the beginning of the buffer on; nothing once the listing is over.
+// Writes the next piece from the beginning of the buffer on; nothing once the listing is over.
 pub fn next_piece(
     l: Listing,
     image: &[u8],
@@ -109,7 +114,7 @@ pub fn next_piece(
             words: l.words,
             at: l.at,
             left: l.left,
-            line: l.line,
+            pins: l.pins,
             input: l.input,
             took: l.took,
             len: 0,
@@ -132,7 +137,7 @@ pub fn next_piece(
     let q = Place {
         listed: begun,
         at: l.at,
-        line: l.line,
+        pins: l.pins,
         input: l.input,
     };
     let r = runs::list_runs(
@@ -164,7 +169,7 @@ pub fn next_piece(
         words: l.words,
         at: r.at,
         left: listed.left,
-        line: r.line,
+        pins: r.pins,
         input: r.input,
         took: listed.took,
         len: end.len,

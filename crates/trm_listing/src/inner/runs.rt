@@ -1,4 +1,4 @@
-// The runs of an image one after another: the clocks of the run in hand, then the next record.
+// The runs of an image one by one: the clocks of the current run, then the next record.
 // Paper: "Kind 3, any number: 9 bytes, count 1-65,536 (4), line byte, input word (4)"; "A clock with stall set is held".
 // All clocks of a run have the same line byte, so a run is held as a whole or not at all.
 ghost use mathlib.Core.Path.{_≡_};
@@ -8,25 +8,25 @@ ghost use lib.ListN.{length};
 ghost use Rattle.trm_word.specs.Charge.{charges};
 ghost use Rattle.trm_cache.specs.Cache.{cache};
 ghost use Rattle.trm_image.specs.Records.{lengthAt};
-ghost use Rattle.trm_image.specs.Refused.{countAt, lineAt, inputAt};
-ghost use Rattle.trm_lines.specs.Onward.{lentOf, Able, Onward};
+ghost use Rattle.trm_image.specs.Refused.{countAt, lineByteAt, inputAt};
+ghost use Rattle.trm_list_rows.specs.Onward.{lentOf, Able, Onward};
 ghost use Rattle.trm_listing.specs.Rest.{heldBy, Stands, Along};
+use trm_clock_scalars::inner::interrupt;
 use trm_core::record::Scalars;
 use trm_image::inner::bytes;
-use trm_image::inner::part;
-use trm_lines::inner::clocks;
-use trm_lines::inner::listed::Listed;
-use trm_steps::inner::interrupt;
+use trm_image::inner::payload_part;
+use trm_list_rows::inner::listed::Listed;
+use trm_list_rows::inner::row_clocks;
 
-// Where a listing stands in an image: in a run, and where the record after it begins.
+// The place of a listing in an image: within a run, and where the record after it begins.
 pub struct Place {
     pub listed: Listed,
     pub at: usize,
-    pub line: u8,
+    pub pins: u8,
     pub input: u32,
 }
 
-// So many held clocks.
+// n held clocks.
 fn hold_all(c: Scalars, n: usize) -> Scalars
     requires { ⌜ (c .counts .clocks + n ≤ 4294967295) × (c .counts .held + n ≤ 8589934591) ⌝ }
     ensures { λ r. ⌜ r ≡ heldBy c n ⌝ }
@@ -39,7 +39,7 @@ fn hold_all(c: Scalars, n: usize) -> Scalars
     next
 }
 
-// The clocks of the run in hand, until they are over or the buffer has no room for a line.
+// Runs the clocks of the current run until none is left or the buffer has no room for a row.
 fn run_clocks(
     l: Listed,
     program: &[u32],
@@ -49,22 +49,22 @@ fn run_clocks(
     block: &mut [u16; 16],
     words: &mut [u32; 128],
     store: &mut [u32],
-    line: u8,
+    pins: u8,
     input: u32,
     base: &[u64; 16],
     buf: &mut [u8],
 ) -> Listed
     requires { ⌜ Able (now program) (lentOf l (now regs) (cache (now full) (now dirty) (now block) (now words)) (now store))
-        (l .took) (l .left) (record { line = line; input = input })
+        (l .took) (l .left) (record { lineByte = pins; input = input })
         × (l .len ≤ length (now buf)) × (now base ≡ charges) ⌝ }
-    ensures { λ r. ⌜ Onward (now (program .entry)) (record { line = line; input = input })
+    ensures { λ r. ⌜ Onward (now (program .entry)) (record { lineByte = pins; input = input })
         l (lentOf l (now (regs .entry)) (cache (now (full .entry)) (now (dirty .entry)) (now (block .entry)) (now (words .entry)))
         (now (store .entry))) (now (buf .entry))
         r (lentOf r (now (regs .exit)) (cache (now (full .exit)) (now (dirty .exit)) (now (block .exit)) (now (words .exit)))
         (now (store .exit))) (now (buf .exit))
         × (r .left ≢ 0 → length (now (buf .entry)) < r .len + 32) ⌝ }
 {
-    if interrupt::is_stalled(line) {
+    if interrupt::is_stalled(pins) {
         let c = l.scalars;
         let after = hold_all(c, l.left);
         return Listed {
@@ -74,7 +74,7 @@ fn run_clocks(
             len: l.len,
         };
     }
-    clocks::list_clocks(
+    row_clocks::list_clocks(
         l,
         program,
         regs,
@@ -83,14 +83,14 @@ fn run_clocks(
         block,
         words,
         store,
-        line,
+        pins,
         input,
         base,
         buf,
     )
 }
 
-// The next record, a run: its payload's nine bytes.
+// Reads the next record, a run, from the nine bytes of its payload.
 fn next_run(q: Place, image: &[u8]) -> Place
     requires { ⌜ (lengthAt (now image) (q .at) ≡ 9) × (q .at + 15 ≤ length (now image)) ⌝ }
     ensures { λ r. ⌜ r ≡ record {
@@ -101,14 +101,14 @@ fn next_run(q: Place, image: &[u8]) -> Place
         len = q .listed .len;
       };
       at = q .at + 15;
-      line = lineAt (now (image .entry)) (q .at);
+      pins = lineByteAt (now (image .entry)) (q .at);
       input = inputAt (now (image .entry)) (q .at);
     } ⌝ }
 {
     let at = q.at;
-    let payload = part::part_at(image, at);
+    let payload = payload_part::part_at(image, at);
     let count = bytes::word_at(payload, 0);
-    let line = bytes::byte_at(payload, 4);
+    let pins = bytes::byte_at(payload, 4);
     let input = bytes::word_at(payload, 5);
     let l = q.listed;
     let c = l.scalars;
@@ -121,12 +121,12 @@ fn next_run(q: Place, image: &[u8]) -> Place
     Place {
         listed: listed,
         at: at + 15,
-        line: line,
+        pins: pins,
         input: input,
     }
 }
 
-// The clocks of the run in hand, in its place.
+// Runs the clocks of the current run and returns the new place.
 fn run_here(
     q: Place,
     image: &[u8],
@@ -160,7 +160,7 @@ fn run_here(
         block,
         words,
         store,
-        q.line,
+        q.pins,
         q.input,
         base,
         buf,
@@ -168,12 +168,12 @@ fn run_here(
     Place {
         listed: listed,
         at: q.at,
-        line: q.line,
+        pins: q.pins,
         input: q.input,
     }
 }
 
-// The run in hand and all after it, until they are over or the buffer has no room for a line.
+// Runs the current run and all later ones, until none is left or the buffer has no room for a row.
 pub fn list_runs(
     q: Place,
     image: &[u8],

@@ -1,6 +1,5 @@
--- What carrying a word out, or taking an interrupt, keeps: widths, the cache bit but for one word, the number of registers.
--- Idea: each of these passes through `cond`, so that a law is a proof for each operation in the order of `execute`.
--- Assumes nothing.
+-- What executing a word or taking an interrupt preserves: the widths of fields, the cache bit (with one exception), the register count.
+-- Each property passes through `cond`, so a law is one proof per operation, in the order of `execute`.
 use Prim.Native.Nat.{ℕ, _+_, _^_, _<_}
 use mathlib.Core.Path.{_≡_, refl}
 use mathlib.Core.Bool.{Bool, true, false, cond}
@@ -18,7 +17,7 @@ use Rattle.trm_alu.specs.Flags.{carryAfter, overflowAfter, flagsAfter, flagsOf}
 use Rattle.trm_reference.specs.Visible.{Visible, register, registerIndex, withRegister, withMode, nextPc, cacheOn}
 use Rattle.trm_reference.specs.Execute.{operandA, operandB, calculated, wentTo, wroteTo, statusSet, returned, jumped}
 use Rattle.trm_reference.specs.Execute.{branchTaken, branchTarget, branched, called, execute}
-use Rattle.trm_reference.specs.Interrupt.{lineRaised, interruptChosen, savedWord, interrupted}
+use Rattle.trm_reference.specs.Interrupt.{interruptRaised, interruptChosen, savedWord, interrupted}
 use Rattle.trm_reference.specs.Charge.{turnsCacheOff}
 
 -- the fields that are narrower than their types
@@ -128,13 +127,13 @@ execute-narrow w v x h =
     (narrow-cond (eqb (operation w) 14) _ _ (branched-narrow w v h)
     (called-narrow w v h)))))
 
-pub interrupted-narrow : (v : Visible) (line : ℕ) → Narrow v → Narrow (interrupted v (interruptChosen (v .status) line))
+pub interrupted-narrow : (v : Visible) (lineByte : ℕ) → Narrow v → Narrow (interrupted v (interruptChosen (v .status) lineByte))
 unfolding interrupted interruptChosen
-interrupted-narrow v line h =
+interrupted-narrow v lineByte h =
     record {
       pc = cond-below 4096 (isSet (bit 2 (v .status))) _ _ (omega arith)
-          (cond-below 4096 (lineRaised 0 (v .status) line) _ _ (omega arith)
-          (cond-below 4096 (lineRaised 1 (v .status) line) _ _ (omega arith) (omega arith)));
+          (cond-below 4096 (interruptRaised 0 (v .status) lineByte) _ _ (omega arith)
+          (cond-below 4096 (interruptRaised 1 (v .status) lineByte) _ _ (omega arith) (omega arith)));
       n = h .n;
       z = h .z;
       c = h .c;
@@ -142,12 +141,12 @@ interrupted-narrow v line h =
       status = mode-below 1 (v .status) (omega arith);
     }
 
--- a mode does not touch the cache bit
+-- setting the mode does not change the cache bit
 mode-on : (mode status : ℕ) → mode < 2 → bit 3 (withMode mode status) ≡ bit 3 status
 unfolding withMode
 mode-on mode status h = omega arith
 
--- a branch of `cond` is asked only where the test leads to it
+-- each branch of `cond` may assume the value of the test
 on-cond : (t : Bool) (a b : Visible) → (t ≡ true → cacheOn a ≡ true) → (t ≡ false → cacheOn b ≡ true) → cacheOn (cond t a b) ≡ true
 on-cond true a b p q = p refl
 on-cond false a b p q = q refl

@@ -1,6 +1,5 @@
 -- Every row of each table holds.
--- Idea: one test computes all rows of a table, and a test that computes to true gives the equations.
--- Assumes nothing.
+-- One Bool test computes all rows of a table; that it is true gives the equation of each row.
 use mathlib.Core.Path.{_≡_, refl}
 use mathlib.Core.Bool.{Bool, true}
 use mathlib.Core.List.{List}
@@ -17,7 +16,7 @@ use Rattle.trm_reference.specs.Access.{isLoad, isStore, addressOf, place
 use Rattle.trm_reference.specs.Access.{toMemory, toDevice, target, targetBlock, targetLine, stored, loaded, deviceAnswer, answerOf}
 use Rattle.trm_reference.specs.Execute.{operandA, operandB, calculated, statusSet, returned, jumped, branchTaken, branchTarget}
 use Rattle.trm_reference.specs.Execute.{branched, called, execute}
-use Rattle.trm_reference.specs.Interrupt.{stalled, lineRaised, interruptChosen, savedWord, interrupted}
+use Rattle.trm_reference.specs.Interrupt.{stalled, interruptRaised, interruptChosen, savedWord, interrupted}
 use Rattle.trm_reference.specs.History.{since, lastIn, storedSince, lastDirty, refillsNow, dirtyNow, howMany, dirtyLines}
 use Rattle.trm_reference.specs.History.{refillsIn, writebacksIn}
 use Rattle.trm_reference.specs.Charge.{isJump, takesBranch, throughCache, pastCache, turnsCacheOff, missCharge}
@@ -64,7 +63,7 @@ unfolding test same
     isLoad isStore addressOf placeOfWord isMemory memoryIndex deviceNumber isAccess toMemory toDevice target targetBlock
     targetLine stored loaded deviceAnswer answerOf
     operandA operandB calculated statusSet returned jumped branchTaken branchTarget branched called execute
-    stalled lineRaised interruptChosen savedWord interrupted since lastIn storedSince lastDirty refillsNow dirtyNow howMany
+    stalled interruptRaised interruptChosen savedWord interrupted since lastIn storedSince lastDirty refillsNow dirtyNow howMany
     dirtyLines refillsIn writebacksIn
     isJump takesBranch throughCache pastCache turnsCacheOff missCharge uncachedCharge chargeBy pinsOf clocks endOf outsOf
     finishedIn

@@ -1,6 +1,5 @@
--- The clock history of one clock more, and of inputs in two parts: what a run's loop needs.
--- Idea: by induction on the inputs; the history of k + 1 inputs is that of k and one clock from its last state.
--- Assumes nothing.
+-- The clock history of one more input, and of a list of inputs in two parts: for the loop of a run.
+-- By induction on the inputs; the history of k + 1 inputs is that of k inputs and one clock from its last state.
 use Prim.Native.Nat.{ℕ, zero, suc, _+_, _<_}
 use mathlib.Core.Path.{_≡_, refl, ap}
 use mathlib.Core.List.{List, [], _∷_, _++_}
@@ -16,7 +15,7 @@ module _ {S I O : Type 0} (step : S → I → After S O) where
   clocks-append x [] js = refl
   clocks-append x (i ∷ is) js = ap (λ ts. step x i ∷ ts) (clocks-append (step x i .state) is js)
 
-  -- d is the input that `getD` gives beyond the list, and is not reached
+  -- d is the default of `getD`, which is not reached
   pub clocks-more : (x : S) (is : List I) (k : ℕ) (d : I) → k < length is
       → clocks step x (take (suc k) is) ≡ clocks step x (take k is) ++ step (endOf x (clocks step x (take k is))) (getD is k d) ∷ []
   unfolding clocks endOf
@@ -63,10 +62,10 @@ unfolding pinsOf
 pins-take zero ls is = refl
 pins-take (suc k) [] is = refl
 pins-take (suc k) (l ∷ ls) [] = refl
-pins-take (suc k) (l ∷ ls) (i ∷ is) = ap (λ ps. record { line = l; input = i } ∷ ps) (pins-take k ls is)
+pins-take (suc k) (l ∷ ls) (i ∷ is) = ap (λ ps. record { lineByte = l; input = i } ∷ ps) (pins-take k ls is)
 
 pub pins-at : (ls is : List ℕ) (k : ℕ) (d : Pins) → k < length ls → k < length is
-    → getD (pinsOf ls is) k d ≡ record { line = getD ls k 0; input = getD is k 0 }
+    → getD (pinsOf ls is) k d ≡ record { lineByte = getD ls k 0; input = getD is k 0 }
 unfolding pinsOf
 pins-at [] is k d h g = absurd (omega arith)
 pins-at (l ∷ ls) [] k d h g = absurd (omega arith)

@@ -1,6 +1,5 @@
--- LD and ST: the address, the word of memory and no other, the clock of the change, the answer; and what an accepted reset gives.
+-- Table: LD and ST access the right address and no other memory word, in the right clock, with the right answer; an accepted reset.
 -- Paper: "12 LD and 13 ST", "changes only in an instruction's last clock", "a byte .. and the word moved", "an accepted reset gives".
--- Assumes nothing.
 use Prim.Native.Nat.{ℕ}
 use mathlib.Core.List.{List, [], _∷_, _++_}
 use lib.ListN.{replicate}
@@ -10,15 +9,15 @@ use Rattle.trm_reference.specs.Reference.{Reference, referenceReset}
 use Rattle.trm_reference.specs.Tables.{Row, row, literalWord, loadWord, storeWord, holding, seen, machine, stateAfter, quiet}
 use Rattle.trm_reference.specs.Tables.{changedFrom, restOf}
 
--- the answer's byte, word and done, the input word being 7
+-- byte, word and `done` of the answer; the input word is 7
 unfoldable pub answeredTo : ℕ → Visible → List ℕ
 answeredTo w v = let a : Answer = answerOf w v 256 7 in a .byte ∷ a .word ∷ a .done ∷ []
 
--- the same with R1 FFC0H, where device 0 is, and R2 77H
+-- the same with R1 FFC0H, the address of device 0, and R2 77H
 abbrev pub answered : ℕ → List ℕ
 answered w = answeredTo w (holding 0xFFC0 0x77 0)
 
--- what is seen in mode 1: R1 FFC0H, R2 88H and R7 40H of bank 1, the bank in use; R2 77H of bank 0; the status is 4, or 12 with
+-- a visible state in mode 1: R1 FFC0H, R2 88H and R7 40H of bank 1, the bank in use; R2 77H of bank 0; the status is 4, or 12 with
 -- the cache on
 abbrev pub inMode1 : ℕ → Visible
 inMode1 status =
@@ -33,12 +32,12 @@ inMode1 status =
       status = status;
     }
 
--- R3 after n clocks, then each word of memory that is not as before, by its place and what it is
+-- R3 after n clocks, then each changed word of memory by its index and its value
 unfoldable pub kept : List ℕ → Reference → ℕ → List ℕ
 kept p q n =
     let u : Reference = stateAfter p q (quiet n) in register (u .visible) 3 ∷ changedFrom 0 (q .memory) (u .memory)
 
--- 256 words that are all 9, R1 and the status given, R2 77H
+-- 256 words that are all 9; R1 and the status are given, R2 is 77H
 abbrev pub nines : ℕ → ℕ → Reference
 nines r1 status = machine (holding r1 0x77 status) 256 []
 
@@ -73,7 +72,7 @@ accesses =
     ∷ row (restOf (referenceReset (5 ∷ 6 ∷ []))) (replicate 27 0 ++ (5 ∷ 6 ∷ []))
     ∷ row (referenceReset (5 ∷ 6 ∷ []) .clocks ∷ referenceReset (5 ∷ 6 ∷ []) .held ∷ []) (0 ∷ 0 ∷ [])
     -- "a byte (bit 0 read, bit 1 write, bits 2–7 device) and the word moved, both zero without an access": LD from device 5,
-    -- ST of R2 to device 63, the same of bank 1's in mode 1, LD and ST of memory, MOV of 1, whose low bits are those of an LD from
+    -- ST of R2 to device 63, the same in mode 1 with bank 1, LD and ST of memory, MOV of 1, whose low bits are those of an LD from
     -- device 0
     ∷ row (answered (loadWord 3 1 5)) (21 ∷ 7 ∷ 1 ∷ [])
     ∷ row (answered (storeWord 2 1 63)) (254 ∷ 0x77 ∷ 1 ∷ [])

@@ -1,6 +1,5 @@
--- What each form of a word changes of what is seen: PC, registers, H, flags and status, and no other register.
+-- Table: what each form of a word changes: PC, registers, H, flags and status, and no other register.
 -- Paper: "What a programmer sees", from 0 MOV to 15, and the program words beyond the lent ones.
--- Assumes nothing.
 use Prim.Native.Nat.{ℕ, _+_}
 use mathlib.Core.Bool.{cond}
 use mathlib.Core.List.{List, [], _∷_}
@@ -9,7 +8,7 @@ use Rattle.trm_reference.specs.Execute.{execute, branchTaken}
 use Rattle.trm_reference.specs.Tables.{Row, row, wordOf, literalWord, registerWord, statusWord, jumpWord, loadWord, storeWord}
 use Rattle.trm_reference.specs.Tables.{branchWord, callWord, holding, seen, shown}
 
--- what is shown once the word is carried out; LD loads BEEFH
+-- the visible state after the word is executed; LD loads BEEFH
 abbrev pub carried : ℕ → Visible → List ℕ
 carried w v = shown v (execute w v 0xBEEF)
 
@@ -28,7 +27,7 @@ takenUnder k =
 
 unfoldable pub executed : List Row
 executed =
-    -- 11 with bit 10 clear: status := bits 3–0, whatever the other bits
+    -- 11 with bit 10 clear: status := bits 3–0, for any other bits
     row (carried (statusWord 11) (seen 0x123 1 0 1 0 4)) (0x124 ∷ 0x8000_0005 ∷ 1 ∷ 0 ∷ 1 ∷ 0 ∷ 11 ∷ [])
     ∷ row (carried (wordOf 11 7 0x3F5) (seen 0xFFF 0 1 0 1 8)) (0 ∷ 0x8000_0005 ∷ 0 ∷ 1 ∷ 0 ∷ 1 ∷ 5 ∷ [])
     -- "PC := low 12 bits of R.s, and by bits 9–8: 00 nothing more"
@@ -42,7 +41,7 @@ executed =
     ∷ row (carried (jumpWord 3 3 6) (seen 0x123 1 0 1 0 15)) (0xABC ∷ 0x8000_0005 ∷ 0 ∷ 1 ∷ 0 ∷ 1 ∷ 11 ∷ [])
     ∷ row (carried (jumpWord 1 3 6) (seen 0x123 0 1 0 1 3)) (0xFFF ∷ 0x8000_0005 ∷ 1 ∷ 0 ∷ 1 ∷ 0 ∷ 3 ∷ [])
     ∷ row (carried (jumpWord 3 3 6) (seen 0x123 0 1 0 1 3)) (0xFFF ∷ 0x8000_0005 ∷ 1 ∷ 0 ∷ 1 ∷ 0 ∷ 3 ∷ [])
-    -- the flags 1100 and 0110, which tell every two of them apart: by R1, from PC 0, H 0 and flags that are all clear
+    -- the flags 1100 and 0110, which distinguish any two flags: from R1, with PC 0, H 0 and all flags clear before
     ∷ row (carried (jumpWord 1 3 1) (holding 0xC000_0ABC 0 3)) (0xABC ∷ 0 ∷ 1 ∷ 1 ∷ 0 ∷ 0 ∷ 3 ∷ [])
     ∷ row (carried (jumpWord 3 3 1) (holding 0x6000_0ABC 0 3)) (0xABC ∷ 0 ∷ 0 ∷ 1 ∷ 1 ∷ 0 ∷ 3 ∷ [])
     -- "14: .. PC := PC+1+signed bits 9–0": by 5, by 511, by −1 and by −512
@@ -50,7 +49,7 @@ executed =
     ∷ row (carried (branchWord 14 511) (seen 0x123 0 0 0 0 0)) (0x323 ∷ 0x8000_0005 ∷ 0 ∷ 0 ∷ 0 ∷ 0 ∷ 0 ∷ [])
     ∷ row (carried (branchWord 14 1023) (seen 0x323 0 0 0 0 0)) (0x323 ∷ 0x8000_0005 ∷ 0 ∷ 0 ∷ 0 ∷ 0 ∷ 0 ∷ [])
     ∷ row (carried (branchWord 14 512) (seen 0x323 0 0 0 0 0)) (0x124 ∷ 0x8000_0005 ∷ 0 ∷ 0 ∷ 0 ∷ 0 ∷ 0 ∷ [])
-    -- by −1 under condition 1, not Z, whose lowest bit stands above the offset's ten
+    -- by −1 under condition 1, not Z, whose lowest bit is next to the ten bits of the offset
     ∷ row (carried (branchWord 1 1023) (seen 0x323 0 0 0 0 0)) (0x323 ∷ 0x8000_0005 ∷ 0 ∷ 0 ∷ 0 ∷ 0 ∷ 0 ∷ [])
     -- "PC and PC+1 are taken mod 4,096": from 4,095 by 511 and by −1, from 0 by −512
     ∷ row (carried (branchWord 14 511) (seen 0xFFF 0 0 0 0 0)) (511 ∷ 0x8000_0005 ∷ 0 ∷ 0 ∷ 0 ∷ 0 ∷ 0 ∷ [])
@@ -83,7 +82,7 @@ executed =
     ∷ row (takenUnder 13) (0 ∷ 1 ∷ 0 ∷ 1 ∷ 1 ∷ 1 ∷ 1 ∷ 1 ∷ 1 ∷ 0 ∷ 1 ∷ 0 ∷ 1 ∷ 1 ∷ 1 ∷ 1 ∷ [])
     ∷ row (takenUnder 14) (1 ∷ 1 ∷ 1 ∷ 1 ∷ 1 ∷ 1 ∷ 1 ∷ 1 ∷ 1 ∷ 1 ∷ 1 ∷ 1 ∷ 1 ∷ 1 ∷ 1 ∷ 1 ∷ [])
     ∷ row (takenUnder 15) (0 ∷ 0 ∷ 0 ∷ 0 ∷ 0 ∷ 0 ∷ 0 ∷ 0 ∷ 0 ∷ 0 ∷ 0 ∷ 0 ∷ 0 ∷ 0 ∷ 0 ∷ 0 ∷ [])
-    -- "Program words beyond the lent ones are 3BC00H (branch never)": of a program of two words
+    -- "Program words beyond the lent ones are 3BC00H (branch never)": with a program of two words
     ∷ row
     (wordAt (7 ∷ 8 ∷ []) 0 ∷ wordAt (7 ∷ 8 ∷ []) 1 ∷ wordAt (7 ∷ 8 ∷ []) 2 ∷ wordAt (7 ∷ 8 ∷ []) 4095 ∷ [])
     (7 ∷ 8 ∷ 0x3BC00 ∷ 0x3BC00 ∷ [])

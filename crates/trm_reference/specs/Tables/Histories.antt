@@ -1,6 +1,6 @@
--- Histories: which access refills, which lines are dirty, the sums over a history, when a ten counts, and what joins the history.
+-- Table: which access refills, which lines are dirty, the sums over a history, when a burst is counted, and what joins the history.
 -- Paper: "Judged from history, ..", "A miss is one looking clock, ..", "counts when its ten is over", "joins the history".
--- The latest access stands first; blocks 0 and 16 are of line 0, 1 and 17 of line 1, 31 of line 15. Assumes nothing.
+-- The latest access is first; blocks 0 and 16 belong to cache line 0, 1 and 17 to line 1, 31 to line 15.
 use Prim.Native.Nat.{ℕ, _+_}
 use mathlib.Core.List.{List, [], _∷_, _++_}
 use lib.ListN.{length, replicate}
@@ -35,7 +35,7 @@ finishedAt p q n = finishes (ran p q (quiet n)) ++ counted p q n
 abbrev pub joined : Reference → ℕ → ℕ → ℕ → Row
 joined q w n events = row (length (stateAfter (w ∷ []) q (quiet n) .history) ∷ []) (events ∷ [])
 
--- LD R3 from 128, which is of block 16 and line 0; ST R3 to it; 11 clearing status bit 3
+-- LD R3 from 128, which is in block 16 and line 0; ST R3 to it; 11 clearing status bit 3
 abbrev pub loads128 : List ℕ
 loads128 = loadWord 3 7 128 ∷ []
 
@@ -81,18 +81,18 @@ histories =
     ∷ row (judged (storeOf 16 ∷ loadOf 0 ∷ []) 0) (1 ∷ 1 ∷ 1 ∷ [])
     -- both stored to, then the first loaded again: clean
     ∷ row (judged (loadOf 0 ∷ storeOf 16 ∷ storeOf 0 ∷ []) 0) (0 ∷ 0 ∷ 0 ∷ [])
-    -- different lines do not disturb each other
+    -- different lines do not affect each other
     ∷ row (judged (loadOf 1 ∷ storeOf 0 ∷ []) 0) (0 ∷ 1 ∷ 1 ∷ [])
     ∷ row (judged (loadOf 1 ∷ storeOf 0 ∷ []) 1) (0 ∷ 0 ∷ 1 ∷ [])
     ∷ row (judged (loadOf 8 ∷ storeOf 0 ∷ []) 0) (0 ∷ 1 ∷ 1 ∷ [])
     ∷ row (judged (storeOf 17 ∷ loadOf 0 ∷ storeOf 31 ∷ storeOf 0 ∷ []) 0) (0 ∷ 1 ∷ 3 ∷ [])
     ∷ row (judged (storeOf 17 ∷ loadOf 0 ∷ storeOf 31 ∷ storeOf 0 ∷ []) 1) (1 ∷ 1 ∷ 3 ∷ [])
-    -- the sums over a history: nothing; a refill, and a hit after it; a clean block and a dirty one driven out
+    -- the sums over a history: empty; a refill, then a hit; a clean block and a dirty one replaced
     ∷ row (summed []) (0 ∷ 0 ∷ [])
     ∷ row (summed (loadOf 0 ∷ storeOf 0 ∷ [])) (1 ∷ 0 ∷ [])
     ∷ row (summed (storeOf 16 ∷ loadOf 0 ∷ [])) (2 ∷ 0 ∷ [])
     ∷ row (summed (loadOf 0 ∷ loadOf 16 ∷ storeOf 0 ∷ [])) (3 ∷ 1 ∷ [])
-    -- an emptying writes back each dirty line, and no refill; after it the same block refills again
+    -- an emptying writes back each dirty line and refills none; after it the same block refills again
     ∷ row (summed (emptying ∷ storeOf 1 ∷ storeOf 0 ∷ [])) (2 ∷ 2 ∷ [])
     ∷ row (summed (emptying ∷ emptying ∷ storeOf 1 ∷ loadOf 0 ∷ [])) (2 ∷ 1 ∷ [])
     ∷ row (summed (storeOf 0 ∷ emptying ∷ storeOf 0 ∷ [])) (2 ∷ 1 ∷ [])
@@ -126,10 +126,10 @@ histories =
     ∷ joined cacheOff (statusWord 0) 1 0
     ∷ joined cacheOff (loadWord 3 7 0) 6 0
     ∷ joined (cacheWith []) (loadWord 3 1 0) 2 0
-    -- ST to 0 misses; LD from 128 misses and writes back; LD from 0 misses again, block 16 being clean; LD from 1 hits
+    -- ST to 0 misses; LD from 128 misses and writes back; LD from 0 misses again with block 16 clean; LD from 1 hits
     ∷ row (finishedAt goesBack (referenceReset (replicate 256 0)) 49) (1 ∷ (1 + 12) ∷ (13 + 22) ∷ (35 + 12) ∷ (47 + 2) ∷ 3 ∷ 1 ∷ [])
     -- ST to 0 misses; turning off writes one line back; LD from 0 refills again
     ∷ row (finishedAt emptiesBetween (referenceReset (replicate 256 0)) 37) (1 ∷ (1 + 12) ∷ (13 + 11) ∷ (24 + 1) ∷ (25 + 12) ∷ 2 ∷ 1 ∷ [])
-    -- neither ST with the cache off nor LD from a device brings block 0: LD from 0 misses, LD from 1 hits
+    -- neither ST with the cache off nor LD from a device loads block 0 into the cache: LD from 0 misses, LD from 1 hits
     ∷ row (finishedAt turnsOn cacheOff 22) (5 ∷ (5 + 1) ∷ (6 + 2) ∷ (8 + 12) ∷ (20 + 2) ∷ 1 ∷ 0 ∷ [])
     ∷ []

@@ -1,6 +1,5 @@
--- Stalls: a word finishes later by its held clocks, with the same outcome, and devices answer in its last clock alone.
+-- Table: held clocks delay a word without changing its outcome, and devices are accessed in its last clock only.
 -- Paper: "A clock with stall set is held", "A stall in the 33rd clock that starts the multiplication over".
--- Assumes nothing.
 use Prim.Native.Nat.{ℕ, _-_, _^_}
 use mathlib.Core.List.{List, [], _∷_, _++_}
 use lib.ListN.{replicate}
@@ -13,11 +12,11 @@ use Rattle.trm_reference.specs.Tables.{quiet, finishes, cacheOff, cacheW
 
 -- the clock counts at which words finish, then held clocks, refills, R1 and H
 unfoldable pub stalledRun : List ℕ → Reference → List ℕ → List ℕ
-stalledRun p q lines =
-    let u : Reference = stateAfter p q lines in
-    finishes (ran p q lines) ++ (u .held ∷ u .refills ∷ register (u .visible) 1 ∷ u .visible .h ∷ [])
+stalledRun p q lineBytes =
+    let u : Reference = stateAfter p q lineBytes in
+    finishes (ran p q lineBytes) ++ (u .held ∷ u .refills ∷ register (u .visible) 1 ∷ u .visible .h ∷ [])
 
--- each clock's byte and word
+-- byte and word of each clock's answer
 unfoldable pub answersOf : List (After Reference Answer) → List ℕ
 answersOf [] = []
 answersOf (t ∷ ts) = t .out .byte ∷ t .out .word ∷ answersOf ts
@@ -29,7 +28,7 @@ multiplies = registerWord 8 1 2 ∷ []
 abbrev pub factors : Reference
 factors = machine (holding (2 ^ 32 - 3) 7 0) 256 []
 
--- LD R1 from 128, where 9 stands
+-- LD R1 from 128, where memory has 9
 abbrev pub loadsR1 : List ℕ
 loadsR1 = loadWord 1 7 128 ∷ []
 
@@ -37,7 +36,7 @@ unfoldable pub stalls : List Row
 stalls =
     -- MUL without a stall: 33 clocks, −21
     row (stalledRun multiplies factors (quiet 33)) (33 ∷ 0 ∷ 0 ∷ (2 ^ 32 - 21) ∷ (2 ^ 32 - 1) ∷ [])
-    -- a stall in the 33rd clock does not start the multiplication over: nothing in clock 33, and the word finishes in the 34th
+    -- a stall in the 33rd clock does not start the multiplication over: clock 33 does nothing, and the word finishes in the 34th
     ∷ row (stalledRun multiplies factors (quiet 32 ++ (4 ∷ []))) (1 ∷ 0 ∷ (2 ^ 32 - 3) ∷ 0 ∷ [])
     ∷ row (stalledRun multiplies factors (quiet 32 ++ (4 ∷ 0 ∷ []))) (34 ∷ 1 ∷ 0 ∷ (2 ^ 32 - 21) ∷ (2 ^ 32 - 1) ∷ [])
     -- a stall in the first clock, and one in the 17th
@@ -46,7 +45,7 @@ stalls =
     (35 ∷ 2 ∷ 0 ∷ (2 ^ 32 - 21) ∷ (2 ^ 32 - 1) ∷ [])
     -- stalls only
     ∷ row (stalledRun multiplies factors (replicate 5 4)) (5 ∷ 0 ∷ (2 ^ 32 - 3) ∷ 0 ∷ [])
-    -- two stalls in the middle of a refill: it counts in clock 13, the word finishes in clock 14
+    -- two stalls in the middle of a refill: it is counted in clock 13, and the word finishes in clock 14
     ∷ row (stalledRun loadsR1 (cacheWith []) (quiet 12)) (12 ∷ 0 ∷ 1 ∷ 9 ∷ 0 ∷ [])
     ∷ row (stalledRun loadsR1 (cacheWith []) (quiet 5 ++ (4 ∷ 4 ∷ quiet 5))) (2 ∷ 0 ∷ 0xFFC0 ∷ 0 ∷ [])
     ∷ row (stalledRun loadsR1 (cacheWith []) (quiet 5 ++ (4 ∷ 4 ∷ quiet 6))) (2 ∷ 1 ∷ 0xFFC0 ∷ 0 ∷ [])

@@ -1,6 +1,5 @@
--- The starred bench cases: those of addresses by the address or place of a load, the others carried out as words of the machine.
+-- Table: the starred bench cases, addresses by the address or place of a load, the others by executing words.
 -- Paper: "Bench cases", the starred ones, in its order.
--- Assumes nothing.
 use Prim.Native.Nat.{ℕ, _+_, _-_, _^_}
 use mathlib.Core.List.{List, [], _∷_}
 use lib.ListN.{replicate}

@@ -1,6 +1,5 @@
 -- A legal store length is a power of two, so a remainder by it is a mask.
 -- By cases on the list of the ten lengths.
--- Assumes nothing.
 use mathlib.Core.Path.{_≡_, refl}
 use mathlib.Core.Bool.{false≢true, Bool, true, false, _||_}
 use mathlib.Core.List.{List, [], _∷_}

@@ -1,6 +1,6 @@
 // The constant table of sixteen base charges by operation.
 // Paper: "A constant table of sixteen base charges by operation, read by the clock engine and the charge definition".
-// A definition cannot read it: the same list is in specs/, and the two are proved equal (D-23).
+// A definition cannot read a constant of the code, so specs/Charge.antt has the same list, proved equal (D-23).
 ghost use mathlib.Core.Path.{_≡_};
 ghost use Prim.Native.Nat.{_<_};
 ghost use Rattle.trm_word.specs.Charge.{charges, chargeOf};

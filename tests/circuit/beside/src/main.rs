@@ -1,11 +1,11 @@
-// Holds the library against the circuit: multiplier and divider step by step, the state word by word, the interrupt's rule.
+// Compares the library with the circuit: multiplier and divider step by step, the state word by word, the interrupt rule.
 // Paper: "Clock by clock". Source: Part 1.
 // Called: beside [--images N] [--seed S]; N images in each group, see ../compare. See tests/circuit/run.
 mod rule;
 mod states;
 mod steps;
 
-/// Images in each group without an option, and the first seed.
+/// Images in each group and the first seed, without options.
 const IMAGES: u64 = 40;
 const SEED: u64 = 1;
 

@@ -1,12 +1,12 @@
-// The published interrupt in words, as a rule over document 01's machine, held against the circuit with IRQ1 on Published.
+// The published interrupt as a rule over document 01's machine, compared with the circuit with IRQ1 on Published.
 // Source: "Interrupts". Paper: all but the interrupt rule, which is replaced by the two sentences at `sampled` and `Stage`.
-// It checks that IRQ1 is all that parts the two, with NOPIRQ, ACKMASK, PSRIRQ and ACKLINE set aside.
+// It checks that IRQ1 is the only difference between the two, with NOPIRQ, ACKMASK, PSRIRQ and ACKLINE set aside.
 use circuit::{list, Image, Setting, Switch};
 use compare::groups::{image, switches, GROUPS};
 use std::fmt::Write;
 use trm::raw::{self, Machine};
 
-/// After a sampled line come an acknowledge clock and a NOP; a taken branch's second clock is its acknowledge.
+/// After a sampled interrupt line come an acknowledge clock and a NOP; a taken branch's second clock is its acknowledge.
 #[derive(Clone, Copy, PartialEq, Eq)]
 enum Stage {
     Running,
@@ -19,7 +19,7 @@ struct Rule<'a> {
     program: &'a [u32],
     store: Vec<u32>,
     stage: Stage,
-    /// The line sampled in the first clock of a taken branch that has not ended.
+    /// The interrupt line sampled in the first clock of a taken branch that has not ended.
     due: Option<u8>,
     clocks: u64,
     held: u64,
@@ -37,10 +37,10 @@ fn branches(word: u32) -> bool {
     word >> 14 >= 14 || word >> 14 == 11 && !is_ldpsr(word)
 }
 
-/// Lines are looked at in an instruction's last unheld clock, in a taken branch's first, with mode and enables as they were
+/// Interrupt lines are sampled in an instruction's last unheld clock, of a taken branch in its first, with mode and enables as they were
 /// before it; never in LDPSR.
-fn sampled(before: &Machine, word: u32, line: u8) -> Option<u8> {
-    let high = line & before.status as u8 & 3;
+fn sampled(before: &Machine, word: u32, line_byte: u8) -> Option<u8> {
+    let high = line_byte & before.status as u8 & 3;
     let open = before.status & 4 == 0 && !is_ldpsr(word) && high != 0;
     open.then_some(if high & 1 == 1 { 0 } else { 1 })
 }
@@ -62,15 +62,15 @@ impl<'a> Rule<'a> {
         }
     }
 
-    fn line(&mut self, at: u64, word: &str) {
+    fn row(&mut self, at: u64, word: &str) {
         // Writing to a string does not fail.
         let _ = writeln!(self.text, "{} {at:03X} {word} {}", self.clocks, self.took);
         self.took = 0;
     }
 
     /// One clock of document 01's machine; true if it ended a word.
-    fn step(&mut self, line: u8, input: u32) -> Result<bool, String> {
-        let answer = raw::clock_value(&self.machine, self.program, &mut self.store, line, input);
+    fn step(&mut self, line_byte: u8, input: u32) -> Result<bool, String> {
+        let answer = raw::clock_value(&self.machine, self.program, &mut self.store, line_byte, input);
         if answer.number != 0 {
             return Err(format!("clock {}: refused with {}", self.clocks, answer.number));
         }
@@ -78,20 +78,20 @@ impl<'a> Rule<'a> {
         Ok(answer.finished == 1)
     }
 
-    fn clock(&mut self, line: u8, input: u32) -> Result<(), String> {
+    fn clock(&mut self, line_byte: u8, input: u32) -> Result<(), String> {
         self.clocks += 1;
-        if line & 4 != 0 {
+        if line_byte & 4 != 0 {
             self.held += 1;
             return Ok(());
         }
         self.took += 1;
         match self.stage {
-            Stage::Running => self.running(line, input)?,
+            Stage::Running => self.running(line_byte, input)?,
             Stage::Acknowledge(number) => self.stage = Stage::Nop(number),
             Stage::Nop(number) => {
                 let at = self.machine.pc;
                 self.step(1 << number, input)?;
-                self.line(at, &format!("irq{number}"));
+                self.row(at, &format!("irq{number}"));
                 self.interrupts += 1;
                 self.stage = Stage::Running;
             }
@@ -99,18 +99,18 @@ impl<'a> Rule<'a> {
         Ok(())
     }
 
-    fn running(&mut self, line: u8, input: u32) -> Result<(), String> {
+    fn running(&mut self, line_byte: u8, input: u32) -> Result<(), String> {
         let before = self.machine;
         let word = self.program.get(before.pc as usize).copied().unwrap_or(0x3BC00);
         let ended = self.step(0, input)?;
         let taken = branches(word) && (before.phase == 5 || !ended);
         if taken && !ended {
-            self.due = sampled(&before, word, line);
+            self.due = sampled(&before, word, line_byte);
         }
         if ended {
-            self.line(before.pc, &format!("{word:05X}"));
+            self.row(before.pc, &format!("{word:05X}"));
             let after_branch = self.due.take().map(Stage::Nop);
-            let after_other = || sampled(&before, word, line).map(Stage::Acknowledge);
+            let after_other = || sampled(&before, word, line_byte).map(Stage::Acknowledge);
             let next = if taken { after_branch } else { after_other() };
             self.stage = next.unwrap_or(Stage::Running);
         }
@@ -120,7 +120,7 @@ impl<'a> Rule<'a> {
     fn run(mut self, image: &Image) -> Result<(String, u64), String> {
         for run in &image.runs {
             for _ in 0..run.count {
-                self.clock(run.line, run.input)?;
+                self.clock(run.line_byte, run.input)?;
             }
         }
         let Machine { refills, writebacks, .. } = self.machine;
@@ -140,17 +140,17 @@ fn group(at: usize, images: u64, seed: u64) -> bool {
             Ok((text, more)) if text == circuit.text => interrupts += more,
             Ok((text, _)) => {
                 let at = text.lines().zip(circuit.text.lines()).position(|(a, b)| a != b).map_or(0, |at| at + 1);
-                println!("FAILED: published interrupt, {name}: seed {seed}, line {at} of the listing differs");
+                println!("FAILED: S2.3 published interrupt, {name}: seed {seed}, line {at} of the listing differs");
                 return false;
             }
             Err(what) => {
-                println!("FAILED: published interrupt, {name}: seed {seed}, {what}");
+                println!("FAILED: S2.3 published interrupt, {name}: seed {seed}, {what}");
                 return false;
             }
         }
         clocks += circuit.clocks;
     }
-    println!("published interrupt as a rule, {name}: {images} images, {clocks} clocks, {interrupts} interrupts");
+    println!("S2.3 published interrupt as a rule, {name}: {images} images, {clocks} clocks, {interrupts} interrupts");
     interrupts > 0
 }
 

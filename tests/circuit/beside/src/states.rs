@@ -1,6 +1,6 @@
-// The library beside the circuit on random images: device accesses in every clock, and the state wherever a word has ended.
-// Paper: "What a programmer sees", answer bytes and words. Source: Part 1; the weight is that of the image's group.
-// Between an instruction's clocks nothing but device accesses is compared: the circuit's branches act one clock earlier.
+// The library and the circuit on random images: device accesses in every clock, and the state wherever a word has ended.
+// Paper: "What a programmer sees", answer bytes and words. Source: Part 1; how much it shows depends on the image's group.
+// Within an instruction only device accesses are compared: the circuit's branches act one clock earlier.
 use circuit::{Circuit, Image, Out, Pins, Setting, Switch, Switches};
 use compare::groups::{image, switches, GROUPS};
 use std::fmt::Write;
@@ -15,7 +15,7 @@ struct Totals {
     writes: u64,
 }
 
-/// PC, status, flags, H and both banks, in words of one kind.
+/// PC, status, flags, H and both banks, all as u32.
 type State = [u32; 20];
 
 fn circuit_state(circuit: &Circuit) -> State {
@@ -36,7 +36,7 @@ fn joined(scalars: [u32; 4], registers: &[u32; 16]) -> State {
     state
 }
 
-/// The places where two states differ, in words.
+/// Where two states differ, as text.
 fn differing(circuit: &State, library: &State) -> String {
     let names = ["PC", "status", "flags", "H"];
     let mut text = String::new();
@@ -55,8 +55,8 @@ fn run(image: &Image, switches: Switches, totals: &mut Totals) -> Result<(), Str
     let mut machine = raw::reset(&store).machine;
     for run in &image.runs {
         for _ in 0..run.count {
-            let out = circuit.clock(Pins::new(run.line, run.input));
-            let answer = raw::clock_value(&machine, &image.program, &mut store, run.line, run.input);
+            let out = circuit.clock(Pins::new(run.line_byte, run.input));
+            let answer = raw::clock_value(&machine, &image.program, &mut store, run.line_byte, run.input);
             if answer.number != 0 {
                 return Err(format!("after {} clocks: refused with {}", machine.clocks, answer.number));
             }
@@ -73,7 +73,7 @@ fn run(image: &Image, switches: Switches, totals: &mut Totals) -> Result<(), Str
                 if theirs != ours {
                     return Err(format!("clock {}:{}", machine.clocks, differing(&theirs, &ours)));
                 }
-                totals.states += u64::from(run.line & 4 == 0);
+                totals.states += u64::from(run.line_byte & 4 == 0);
             }
         }
     }
@@ -84,7 +84,7 @@ fn run(image: &Image, switches: Switches, totals: &mut Totals) -> Result<(), Str
     Ok(())
 }
 
-/// Whether some image differs once device accesses are as published.
+/// Whether some image differs with device accesses as published.
 fn control(at: usize, images: u64, seed: u64) -> bool {
     let turned = switches(at).with(Switch::Io1, Setting::Published);
     let mut totals = Totals::default();
@@ -97,16 +97,18 @@ fn group(at: usize, images: u64, seed: u64) -> bool {
     for round in 0..images {
         let seed = seed.wrapping_add(round);
         if let Err(what) = run(&image(at, seed), switches(at), &mut totals) {
-            println!("FAILED: states, {name}: seed {seed}, {what}");
+            println!("FAILED: S2.5 states, {name}: seed {seed}, {what}");
             return false;
         }
     }
     if !control(at, images, seed) {
-        println!("FAILED: states, {name}: no image differs with IO1 on Published");
+        println!("FAILED: S2.5 states, {name}: no image differs with IO1 on Published");
         return false;
     }
     let Totals { images: whole, clocks, states, reads, writes } = totals;
-    println!("states, {name}: {whole} images, {clocks} clocks, {states} states, {reads} device reads, {writes} writes");
+    println!(
+        "S2.5 states, {name}: {whole} images, {clocks} clocks, {states} states, {reads} device reads, {writes} writes"
+    );
     println!("    {}", GROUPS[at].weight);
     whole == images && whole > 0
 }

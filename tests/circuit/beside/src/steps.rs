@@ -1,11 +1,11 @@
-// The library's multiplier and divider registers against the circuit's, after each of the 32 steps, and the results.
+// The multiplier and divider registers of library and circuit after each of the 32 steps, and the results.
 // Paper: "After k multiplier steps", the divider's remainder and quotient. Source: "The Multiplier", "The Divider".
-// After clock 33 the circuit keeps its registers where document 01 has zero, so only results are compared there.
+// After clock 33 the circuit keeps its registers, which are zero in document 01, so only results are compared there.
 use circuit::words::{register, DIV, MUL};
 use circuit::{Circuit, Pins, Setting, Switch, Switches};
 use trm::raw::{self, Machine};
 
-/// Random pairs, beside the edges.
+/// Random pairs, in addition to the edges.
 const ROUNDS: u64 = 3000;
 
 const EDGES: [u32; 18] = [
@@ -36,7 +36,7 @@ struct Group {
     operation: u32,
     /// The switches that are set on Document01; all others stay on Published.
     set_aside: &'static [Switch],
-    /// With this one on Published some pair must differ, or the comparison sees nothing.
+    /// With this switch on Published some pair must differ; otherwise the comparison is blind.
     control: Switch,
     /// Which pairs (B, A) belong here.
     takes: fn(u32, u32) -> bool,
@@ -46,7 +46,7 @@ const TOP: u32 = 0x8000_0000;
 
 const GROUPS: [Group; 4] = [
     Group {
-        name: "multiplier, all operands",
+        name: "S2.13 multiplier, all operands",
         weight: "evidence from the published text, nothing set aside but the first NOP",
         operation: MUL,
         set_aside: &[Switch::Fill],
@@ -54,7 +54,7 @@ const GROUPS: [Group; 4] = [
         takes: |_, _| true,
     },
     Group {
-        name: "divider, A above 0 and B other than -2^31",
+        name: "S2.14 divider, A above 0 and B other than -2^31",
         weight: "evidence from the published text, nothing set aside but the first NOP",
         operation: DIV,
         set_aside: &[Switch::Fill],
@@ -62,7 +62,7 @@ const GROUPS: [Group; 4] = [
         takes: |b, a| a as i32 > 0 && b != TOP,
     },
     Group {
-        name: "divider, A above 0 and B = -2^31",
+        name: "S2.14 divider, A above 0 and B = -2^31",
         weight: "evidence with the listed slip DIVTOP set aside",
         operation: DIV,
         set_aside: &[Switch::Fill, Switch::DivTop],
@@ -70,7 +70,7 @@ const GROUPS: [Group; 4] = [
         takes: |b, a| a as i32 > 0 && b == TOP,
     },
     Group {
-        name: "divider, A at or below 0",
+        name: "S2.14 divider, A at or below 0",
         weight: "no evidence: DIVNP gives document 01's rule",
         operation: DIV,
         set_aside: &[Switch::Fill, Switch::DivTop, Switch::DivNp],
@@ -90,7 +90,7 @@ impl Random {
         z ^ z >> 31
     }
 
-    /// A word, often an edge, a power of two or one beside it.
+    /// A word, often an edge, a power of two or next to one.
     fn word(&mut self) -> u32 {
         let (choice, word) = (self.next() % 6, (self.next() >> 16) as u32);
         match choice {
@@ -112,7 +112,7 @@ fn pairs(seed: u64) -> Vec<(u32, u32)> {
     pairs
 }
 
-/// The registers that stand side by side after a step.
+/// The registers to compare after a step.
 fn registers(circuit: &Circuit, machine: &Machine, operation: u32) -> [(&'static str, u64, u64); 2] {
     if operation == MUL {
         let product = circuit.multiplier.product();
@@ -123,7 +123,7 @@ fn registers(circuit: &Circuit, machine: &Machine, operation: u32) -> [(&'static
     [("R", divider.r.into(), machine.remainder), ("Q", divider.q.into(), machine.quotient)]
 }
 
-/// One operation on both sides: 32 steps, then results. Gives the number of steps compared.
+/// One operation on both sides: 32 steps, then the results. Returns the number of steps compared.
 fn pair(group: &Group, switches: Switches, b: u32, a: u32) -> Result<u64, String> {
     let program = [register(group.operation, 0, 1)];
     let mut store = vec![0; 64];

@@ -1,13 +1,13 @@
 // The combinational part of the data unit: aluRes with its 33 bits, the shifter's three stages, the conditions.
 // Source: "The data processing unit", "The Shifter", `cond` of "The control unit". Paper: the conditions of operation 14.
-// Multiplier and divider are registers of their own; their results come in as operands.
+// Multiplier and divider have their own modules; their results are inputs here.
 use crate::words::{ADD, DIV, MOV, MUL, NOT, SUB};
 
 const AND: u32 = 4;
 const BIC: u32 = 5;
 const OR: u32 = 6;
 
-/// The decode of no operation: every wire low.
+/// The decoded operation when there is none: every wire low.
 pub const NONE: u32 = 16;
 
 pub struct Operands {
@@ -22,7 +22,7 @@ fn extended(word: u32) -> u64 {
     u64::from(word) | u64::from(word >> 31) << 32
 }
 
-/// aluRes, 33 bits. Whatever is not named, ROR, loads and links among it, takes the path of XOR.
+/// aluRes, 33 bits. Every operation not named here, including ROR, loads and links, takes the path of XOR.
 pub fn result(op: u32, from: &Operands) -> u64 {
     const MASK: u64 = 0x1_FFFF_FFFF;
     let (a, b) = (u64::from(from.a), u64::from(from.b));
@@ -68,7 +68,7 @@ impl Flags {
     }
 }
 
-/// `cond`: one of eight conditions by bits 13-11, turned round by bit 10.
+/// `cond`: one of eight conditions by bits 13-11, inverted by bit 10.
 pub fn condition(ir: u32, flags: Flags) -> bool {
     let Flags { n, z, c, v } = flags;
     let s = n ^ v;
@@ -90,14 +90,14 @@ mod tests {
     use super::*;
 
     #[test]
-    fn the_shifter_rotates_by_every_count() {
+    fn s1_14_the_shifter_rotates_by_every_count() {
         for count in 0..64 {
             assert_eq!(rotated(count, 0x8000_4321), 0x8000_4321u32.rotate_right(count % 32));
         }
     }
 
     #[test]
-    fn bit_32_is_the_sign_of_the_exact_sum() {
+    fn s1_19_bit_32_is_the_sign_of_the_exact_sum() {
         let sum = |a, b| result(ADD, &Operands { a, b, product: 0, quotient: 0 });
         assert_eq!(sum(0x8000_0000, 0x8000_0000), 0x1_0000_0000);
         assert_eq!(sum(1, 0x7FFF_FFFF), 0x8000_0000);

@@ -1,8 +1,8 @@
-// Local memory by document 01's clock table: a stalling state machine around the circuit, with its cache.
+// Local memory by document 01's clock table: a state machine that stalls the circuit, with its cache.
 // Paper: "Clock by clock", the clock table and the cache. It is our reading of document 01, not evidence from the source.
-// The cache of the source's Part 5 is another one and is not here; devices never come here.
+// The cache of the source's Part 5 is a different one and is not here; device accesses do not reach this module.
 
-/// What the circuit asks of local memory in one clock.
+/// The circuit's request to local memory in one clock.
 #[derive(Clone, Copy, PartialEq, Eq, Debug)]
 pub enum Request {
     Nothing,
@@ -30,7 +30,7 @@ struct Line {
 
 pub struct Cache {
     phase: Phase,
-    /// Clocks of the phase done.
+    /// Clocks of the phase that are done.
     count: usize,
     lines: [Line; 16],
     words: [u32; 128],
@@ -38,7 +38,7 @@ pub struct Cache {
     pub writebacks: u64,
 }
 
-/// Clocks of a ten.
+/// Clocks of a burst (the paper's ten).
 const TEN: usize = 10;
 
 fn line_of(address: usize) -> usize {
@@ -68,7 +68,7 @@ impl Cache {
         self.lines.iter().position(|line| line.dirty)
     }
 
-    /// Whether this clock is the last of the request, so that nothing stalls.
+    /// Whether this clock is the last of the request, so that the circuit is not stalled.
     pub fn ends(&self, request: Request, on: bool) -> bool {
         match request {
             Request::Nothing => true,
@@ -80,7 +80,7 @@ impl Cache {
         }
     }
 
-    /// The word a load gives in its last clock.
+    /// The word that a load gets in its last clock.
     pub fn loaded(&self, store: &[u32], address: usize, on: bool) -> u32 {
         if on {
             self.words[place_of(address)]
@@ -123,7 +123,7 @@ impl Cache {
         }
     }
 
-    /// The looking clock.
+    /// The tag-check clock.
     fn look(&mut self, address: usize) {
         if self.hit(address) {
             self.phase = Phase::Last;
@@ -139,7 +139,7 @@ impl Cache {
         (self.phase, self.count) = (Phase::Refill, 0);
     }
 
-    /// One clock of a ten writing a line back; true if it was the tenth.
+    /// One clock of a write-back burst; true if it was the last.
     fn write_back(&mut self, store: &mut [u32], line: usize) -> bool {
         let first = self.lines[line].block * 8;
         if let Some(word) = self.count.checked_sub(2) {
@@ -154,7 +154,7 @@ impl Cache {
         self.count == 0
     }
 
-    /// One clock of an emptying; it has no looking clock.
+    /// One clock of an emptying, which has no tag-check clock.
     fn write_back_lowest(&mut self, store: &mut [u32]) {
         let Some(line) = self.dirty_line() else { return };
         if self.write_back(store, line) && self.dirty_line().is_none() {
@@ -162,7 +162,7 @@ impl Cache {
         }
     }
 
-    /// One clock of a ten refilling the line of an address.
+    /// One clock of a refill burst for the line of an address.
     fn refill(&mut self, store: &[u32], address: usize) {
         let line = line_of(address);
         if let Some(word) = self.count.checked_sub(2) {

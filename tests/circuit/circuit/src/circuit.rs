@@ -1,6 +1,6 @@
 // The circuit's registers, its pins, and one clock: wires from registers, then the edge.
 // Source: Part 1, the TRM module. Paper: switches FILL and RESET.
-// The parts of the edge stand in control.rs, interrupt.rs, data.rs, multiplier.rs, divider.rs and memory.rs.
+// The parts of the edge are in control.rs, interrupt.rs, data.rs, multiplier.rs, divider.rs and memory.rs.
 use crate::alu::Flags;
 use crate::divider::Divider;
 use crate::memory::Memory;
@@ -20,9 +20,9 @@ pub struct Pins {
 }
 
 impl Pins {
-    /// A line byte and an input word of document 01.
-    pub fn new(line: u8, inbus: u32) -> Pins {
-        Pins { reset: false, irq0: line & 1 != 0, irq1: line & 2 != 0, stall: line & 4 != 0, inbus }
+    /// The pins for a line byte and an input word of document 01.
+    pub fn new(line_byte: u8, inbus: u32) -> Pins {
+        Pins { reset: false, irq0: line_byte & 1 != 0, irq1: line_byte & 2 != 0, stall: line_byte & 4 != 0, inbus }
     }
 }
 
@@ -47,8 +47,8 @@ pub struct Circuit {
     pub int_enb1: bool,
     pub int_md: bool,
     pub int_ack: bool,
-    /// The line that was sampled.
-    pub line: u32,
+    /// The interrupt line that was sampled.
+    pub interrupt_line: u32,
     /// Status bit 3.
     pub cache_on: bool,
     pub memory: Memory,
@@ -75,7 +75,7 @@ impl Circuit {
             int_enb1: false,
             int_md: false,
             int_ack: false,
-            line: 0,
+            interrupt_line: 0,
             cache_on: false,
             memory: Memory::new(store.to_vec()),
         };
@@ -84,7 +84,7 @@ impl Circuit {
         circuit
     }
 
-    /// The NOP's clock after a reset, not counted with FILL on Document01.
+    /// The clock of the NOP after a reset, which is not counted with FILL on Document01.
     fn fill(&mut self) {
         if self.switches.document01(Switch::Fill) {
             self.clock(Pins::default());
@@ -103,7 +103,7 @@ impl Circuit {
         wires.out
     }
 
-    /// The edge. Everything is computed from the registers as the clock found them.
+    /// The edge. Everything is computed from the registers as they were before the clock.
     pub fn edge(&mut self, wires: &Wires, pins: &Pins) {
         let (multiplied, divided) = (wires.inputs(MUL), wires.inputs(DIV));
         self.memory_edge(wires);
@@ -111,7 +111,7 @@ impl Circuit {
         self.multiplier.edge(&multiplied, &self.switches);
         self.divider.edge(&divided, &self.switches);
         self.edge_stall1(wires);
-        // Before the control unit: both still need IR.
+        // Before the control unit: these still need IR.
         if pins.reset {
             self.reset_interrupt();
             self.reset_control();
@@ -127,7 +127,7 @@ impl Circuit {
         self.memory.edge(wires.request, wires.port, wires.held, on, &self.switches);
     }
 
-    /// What a reset clears besides, with RESET on Document01.
+    /// What a reset clears in addition with RESET on Document01.
     fn clear(&mut self) {
         if self.switches.document01(Switch::Reset) {
             (self.registers, self.flags, self.h) = ([0; 16], Flags::default(), 0);

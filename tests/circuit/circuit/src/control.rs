@@ -1,6 +1,6 @@
-// The control unit's edge: pcmux, the fetch registers PCf and IRf, and PC and IR behind them.
+// The control unit's edge: pcmux, the fetch registers PCf and IRf, and PC and IR after them.
 // Source: "The control unit" (the pipelined form), "Interrupts" (the final pcmux). Paper: switch IRQ1.
-// `bubble` is not in the source: it tells a NOP that the circuit put into IR from the program's own 3BC00H.
+// `bubble` is not in the source: it distinguishes a NOP that the circuit put into IR from the program's own 3BC00H.
 use crate::circuit::Circuit;
 use crate::switches::Switch;
 use crate::wires::{Wires, BC, BL};

@@ -1,6 +1,6 @@
 // The data unit's edge: regmux into the register file, the flags, H.
 // Source: "The data processing unit", regmux of "Input and Output". Paper: switches Z32, RORNZ and NZ.
-// The interrupt's save, RTI's flags and what writes a register are left out of the text and follow document 01.
+// The interrupt's save, RTI's flags and the condition for writing a register are missing in the text and follow document 01.
 use crate::alu::Flags;
 use crate::circuit::{Circuit, Pins};
 use crate::switches::Switch;
@@ -8,7 +8,7 @@ use crate::wires::{Wires, BL, BR, LD};
 use crate::words::{ADD, DIV, MUL, ROR, SUB};
 
 impl Circuit {
-    /// Where register `number` of the bank in use stands among the sixteen.
+    /// The index of register `number` of the current bank among the sixteen.
     pub fn place(&self, number: u32) -> usize {
         (u32::from(self.int_md) << 3 | number & 7) as usize
     }

@@ -1,6 +1,6 @@
 // The divider: state S, remainder R and quotient Q, over the absolute value of the dividend.
 // Source: "The Divider". Paper: DIV, and the divider's registers after k steps; switches DIVTOP, DIVNP, MUL33, HOLDMUL.
-// R and Q keep their values after clock 33; document 01 has zero there, which no listing shows.
+// R and Q keep their values after clock 33, where document 01 has zero; no listing shows it.
 use crate::multiplier::Inputs;
 use crate::switches::{Switch, Switches};
 
@@ -12,7 +12,7 @@ pub struct Divider {
     pub q: u32,
 }
 
-/// Whether a divisor is at or below zero and document 01 rules.
+/// Whether a divisor is at or below zero and document 01 applies.
 fn idle(y: u32, switches: &Switches) -> bool {
     y as i32 <= 0 && switches.document01(Switch::DivNp)
 }

@@ -1,12 +1,12 @@
 // Reads an image: the program, the first data words, and the clocks to run.
 // Paper: "Images and the listing program".
-// It answers none to whatever is wrong; which number a refusal has is not its matter.
+// It returns `None` for any fault; the refusal number does not matter here.
 
-/// So many clocks with one line byte and one input word.
+/// `count` clocks with one line byte and one input word.
 #[derive(Clone, Copy, PartialEq, Eq, Debug)]
 pub struct Run {
     pub count: u32,
-    pub line: u8,
+    pub line_byte: u8,
     pub input: u32,
 }
 
@@ -28,7 +28,7 @@ fn words(bytes: &[u8]) -> Vec<u32> {
     bytes.chunks_exact(4).map(word).collect()
 }
 
-/// The image that the bytes hold, if it is a good one.
+/// The image in these bytes, if it is legal.
 pub fn read(bytes: &[u8]) -> Option<Image> {
     let mut image = Image::default();
     let mut rest = bytes;
@@ -42,7 +42,7 @@ pub fn read(bytes: &[u8]) -> Option<Image> {
             (0, 1) if length.is_multiple_of(4) && (4..=16_384).contains(&length) => image.program = words(payload),
             (1, 2) if length.is_multiple_of(4) && length <= STORE * 4 => image.data = words(payload),
             (1..=3, 3) if length == 9 => {
-                image.runs.push(Run { count: word(payload), line: payload[4], input: word(&payload[5..]) })
+                image.runs.push(Run { count: word(payload), line_byte: payload[4], input: word(&payload[5..]) })
             }
             _ => return None,
         }
@@ -52,7 +52,7 @@ pub fn read(bytes: &[u8]) -> Option<Image> {
     let good = last != 0
         && bytes.len() <= 65_536
         && image.program.iter().all(|&word| word < 1 << 18)
-        && image.runs.iter().all(|run| (1..=65_536).contains(&run.count) && run.line < 8);
+        && image.runs.iter().all(|run| (1..=65_536).contains(&run.count) && run.line_byte < 8);
     good.then_some(image)
 }
 
@@ -66,7 +66,7 @@ impl Image {
         }
         for run in &self.runs {
             let mut payload = run.count.to_le_bytes().to_vec();
-            payload.push(run.line);
+            payload.push(run.line_byte);
             payload.extend(run.input.to_le_bytes());
             record(&mut bytes, 3, &payload);
         }

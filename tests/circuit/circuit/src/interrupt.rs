@@ -1,13 +1,13 @@
 // The interrupt facility: sampling, intAck, intMd and the enables, with LDPSR and RTI.
 // Source: "Interrupts". Paper: the interrupt rule; switches NOPIRQ, PSRIRQ, ACKLINE, HOLDRTI and IRQ1.
-// The jump itself is in control.rs, the save in data.rs. `line` is not in the source; ACKLINE on Document01 needs it.
+// The jump itself is in control.rs, the save in data.rs. `interrupt_line` is not in the source; ACKLINE on Document01 needs it.
 use crate::circuit::{Circuit, Pins};
 use crate::switches::Switch;
 use crate::wires::Wires;
 use crate::words::NEVER;
 
 impl Circuit {
-    /// irq0e, then irq1e: the first line that is high and enabled.
+    /// irq0e, then irq1e: the first interrupt line that is high and enabled.
     pub fn enabled_line(&self, pins: &Pins) -> Option<u32> {
         if pins.irq0 && self.int_enb0 {
             Some(0)
@@ -21,13 +21,13 @@ impl Circuit {
     /// The address the acknowledge clock jumps to, if it jumps.
     pub fn vector(&self, pins: &Pins, take: bool) -> Option<u32> {
         if take || self.switches.published(Switch::AckLine) {
-            self.enabled_line(pins).map(|line| 2 + line)
+            self.enabled_line(pins).map(|interrupt_line| 2 + interrupt_line)
         } else {
-            Some(2 + self.line)
+            Some(2 + self.interrupt_line)
         }
     }
 
-    /// Whether the published rule samples a line in this clock.
+    /// Whether the published rule samples an interrupt line in this clock.
     fn samples(&self, wires: &Wires, pins: &Pins) -> bool {
         let nop = match self.switches.published(Switch::NopIrq) {
             true => self.ir == NEVER,
@@ -54,7 +54,7 @@ impl Circuit {
             self.int_md = true;
         } else if self.samples(wires, pins) {
             (self.int_ack, self.int_md) = (true, true);
-            self.line = self.enabled_line(pins).unwrap_or(0);
+            self.interrupt_line = self.enabled_line(pins).unwrap_or(0);
         } else if wires.is_rti(self.ir) && !waits {
             self.int_md = false;
         } else if wires.is_ldpsr(self.ir) && !waits {

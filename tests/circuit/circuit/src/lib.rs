@@ -1,6 +1,6 @@
 // The published circuit of the TRM-3, register by register and clock by clock, with a switch for each deviation.
 // Source: Part 1, "The Implementation of the TRM-3". Paper: the other setting of each switch.
-// It does not have the floating-point unit, the DDR memory or the cache of Part 5; refusals are not complete.
+// It does not have the floating-point unit, the DDR memory or the cache of Part 5; of refusals it has only some.
 #![forbid(unsafe_code)]
 
 mod alu;

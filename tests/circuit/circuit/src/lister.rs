@@ -1,6 +1,6 @@
 // The lister: watches the circuit's wires clock by clock and writes the listing of an image.
 // Paper: "Images and the listing program". With the published interrupt `took` follows from the circuit.
-// It changes nothing in the circuit; an acknowledge that does not jump has no line.
+// It changes nothing in the circuit; an acknowledge that does not jump has no row.
 use crate::circuit::{Circuit, Pins};
 use crate::image::Image;
 use crate::switches::Switches;
@@ -20,7 +20,7 @@ pub struct Listing {
 pub struct Lister {
     pub circuit: Circuit,
     pub listing: Listing,
-    /// Unheld clocks since the last line.
+    /// Unheld clocks since the last row.
     took: u64,
     /// Address and word of a branch or an interrupt whose NOP is still to come.
     pending: Option<(u32, String)>,
@@ -39,8 +39,8 @@ impl Lister {
         Lister::new(circuit)
     }
 
-    pub fn clock(&mut self, line: u8, input: u32) -> Out {
-        let pins = Pins::new(line, input);
+    pub fn clock(&mut self, line_byte: u8, input: u32) -> Out {
+        let pins = Pins::new(line_byte, input);
         let wires = self.circuit.wires(&pins);
         self.listing.clocks += 1;
         if wires.held {
@@ -52,7 +52,7 @@ impl Lister {
         wires.out
     }
 
-    /// Looks at an unheld clock before its edge.
+    /// Examines an unheld clock before its edge.
     fn watch(&mut self, wires: &Wires) {
         self.took += 1;
         if self.circuit.bubble {
@@ -66,15 +66,15 @@ impl Lister {
             if wires.jump {
                 self.pending = Some((at, word));
             } else {
-                self.line(at, &word);
+                self.row(at, &word);
             }
         }
     }
 
-    /// The NOP after a branch, an interrupt or a reset; the last has no line.
+    /// The NOP after a branch, an interrupt or a reset; the last of these has no row.
     fn end_pending(&mut self) {
         match self.pending.take() {
-            Some((at, word)) => self.line(at, &word),
+            Some((at, word)) => self.row(at, &word),
             None => self.took = 0,
         }
     }
@@ -82,14 +82,14 @@ impl Lister {
     fn acknowledge(&mut self, wires: &Wires) {
         let at = self.circuit.pc;
         match wires.vector {
-            Some(vector) if wires.take => self.line(at, &format!("irq{}", vector - 2)),
+            Some(vector) if wires.take => self.row(at, &format!("irq{}", vector - 2)),
             _ if wires.stall0 => (),
             Some(vector) => self.pending = Some((at, format!("irq{}", vector - 2))),
             None => self.took = 0,
         }
     }
 
-    fn line(&mut self, at: u32, word: &str) {
+    fn row(&mut self, at: u32, word: &str) {
         self.listing.interrupts += u64::from(word.starts_with('i'));
         let clocks = self.listing.clocks;
         // Writing to a string does not fail.
@@ -97,7 +97,7 @@ impl Lister {
         self.took = 0;
     }
 
-    /// Adds the end line.
+    /// Adds the last row.
     pub fn end(mut self) -> Listing {
         let cache = &self.circuit.memory.cache;
         let Listing { clocks, held, .. } = self.listing;
@@ -107,12 +107,12 @@ impl Lister {
     }
 }
 
-/// The listing of a good image.
+/// The listing of a legal image.
 pub fn list(image: &Image, switches: Switches) -> Listing {
     let mut lister = Lister::new(Circuit::new(switches, &image.program, &image.store()));
     for run in &image.runs {
         for _ in 0..run.count {
-            lister.clock(run.line, run.input);
+            lister.clock(run.line_byte, run.input);
         }
     }
     lister.end()
@@ -124,14 +124,14 @@ mod tests {
     use crate::image::read;
     use crate::switches::{Setting, Switch};
 
-    /// The paper's own example.
+    /// The paper's example.
     const BYTES: [u8; 33] =
         [0x0C, 0, 0, 0, 1, 0, 5, 0, 0, 0, 3, 0, 2, 0, 0xFF, 0xBB, 3, 0, 9, 0, 0, 0, 3, 0, 0x28, 0, 0, 0, 0, 0, 0, 0, 0];
     const TEXT: &str = "clock at word took\n1 000 00005 1\n34 001 20003 33\n36 002 3BBFF 2\n38 002 3BBFF 2\n\
                         40 002 3BBFF 2\nend 40 held 0 refills 0 writebacks 0\n";
 
     #[test]
-    fn the_papers_example() {
+    fn s4_11_the_papers_example() {
         let image = read(&BYTES).unwrap();
         assert_eq!(image.bytes(), BYTES);
         assert_eq!(list(&image, Switches::all(Setting::Document01)).text, TEXT);

@@ -1,6 +1,6 @@
-// Local memory: the published block RAM with its output register, and the way to document 01's state machine.
+// Local memory: the published block RAM with its output register, and the connection to document 01's state machine.
 // Source: "The Local Data Memory". Paper: switches MEMORY, DMIO and RESET.
-// What document 01's memory does clock by clock stands in cache.rs.
+// cache.rs has what document 01's memory does clock by clock.
 use crate::cache::{Cache, Request};
 use crate::switches::{Switch, Switches};
 
@@ -16,12 +16,12 @@ impl Memory {
         Memory { words, dmout: 0, cache: Cache::empty() }
     }
 
-    /// The address once reduced to the store.
+    /// The address reduced to the store's length.
     pub fn place(&self, address: u32) -> usize {
         address as usize & (self.words.len() - 1)
     }
 
-    /// Whether local memory stalls the processor in this clock, beside stall1.
+    /// Whether local memory stalls the processor in this clock, in addition to stall1.
     pub fn stall(&self, request: Request, on: bool, switches: &Switches) -> bool {
         switches.document01(Switch::Memory) && !self.cache.ends(request, on)
     }
@@ -35,7 +35,7 @@ impl Memory {
         }
     }
 
-    /// The edge of a clock: `request` to local memory, `port` the store that reaches the block RAM.
+    /// The edge of a clock: `request` goes to local memory, `port` is the store that reaches the block RAM.
     pub fn edge(&mut self, request: Request, port: Port, held: bool, on: bool, switches: &Switches) {
         self.dmout = self.words[port.place];
         if let Some(word) = port.written {

@@ -1,6 +1,6 @@
-// The multiplier: state S, and Hi and Lo, the partial product over what is left of the multiplier.
+// The multiplier: state S, and Hi and Lo, which hold the partial product and the bits of the multiplier not yet used.
 // Source: "The Multiplier". Paper: "After k multiplier steps"; switches MUL33, HOLDMUL and RESET.
-// Hi and Lo keep their values after clock 33; document 01 has zero there, which no listing shows.
+// Hi and Lo keep their values after clock 33, where document 01 has zero; no listing shows it.
 use crate::switches::{Switch, Switches};
 
 #[derive(Clone, Default)]
@@ -18,12 +18,12 @@ pub struct Inputs {
     pub on: bool,
     pub a: u32,
     pub b: u32,
-    /// The outer stall. The published modules do not have it.
+    /// The outer stall, which the published modules do not have.
     pub held: bool,
 }
 
 impl Inputs {
-    /// Whether the module's registers stand still because of a held clock.
+    /// Whether the module's registers keep their values because the clock is held.
     pub fn stands(&self, switches: &Switches, stepping: bool) -> bool {
         let held_by = if stepping { Switch::HoldMul } else { Switch::Mul33 };
         self.held && switches.document01(held_by)

@@ -1,8 +1,8 @@
-// The switches: every place where the published text and document 01 part, held as data.
+// The switches: every place where the published text and document 01 differ, as data.
 // Source: Part 1. Paper: what each row's third text says; "Misreadings of the source" for the last column.
-// A switch is read by the circuit; nothing here says how a difference comes about.
+// The circuit reads the switches; how each changes its behaviour is in the circuit's modules.
 //
-// Left out of the source's text and filled in after document 01, so that a comparison is no evidence for them:
+// Missing in the source's text and filled in from document 01, so that a comparison is no evidence for them:
 // regwr (which operations write a register, and that MUL, DIV and LD do not write while they stall themselves), dst
 // (7 for BL and for the interrupt's save), LDH, RTI's flags, the save's entry in regmux, the wire S of the conditions
 // (N xor V), status bit 3, the place of the interrupt's case in the code of PC and IR, and the widths of imm and off.
@@ -39,10 +39,12 @@ pub enum Switch {
     Memory,
 }
 
-/// A switch, its name, the two behaviours, and whether document 01 lists it under its misreadings.
+/// A switch, its name, the id of its sentence in docs/CLAIMS.md, the two behaviours, and whether document 01 lists it under
+/// its misreadings.
 pub struct Row {
     pub switch: Switch,
     pub name: &'static str,
+    pub sentence: &'static str,
     pub published: &'static str,
     pub document01: &'static str,
     pub listed: bool,
@@ -51,11 +53,12 @@ pub struct Row {
 const fn row(
     switch: Switch,
     name: &'static str,
+    sentence: &'static str,
     listed: bool,
     published: &'static str,
     document01: &'static str,
 ) -> Row {
-    Row { switch, name, published, document01, listed }
+    Row { switch, name, sentence, published, document01, listed }
 }
 
 /// In the order of `Switch`.
@@ -63,22 +66,39 @@ pub const TABLE: [Row; 21] = [
     row(
         Switch::Z32,
         "Z32",
+        "S6.2",
         true,
         "Z looks at all 33 bits of aluRes, so a wrapped sum of zero and every NOT miss it",
         "Z looks at the 32-bit result",
     ),
-    row(Switch::RorNz, "RORNZ", true, "N and Z of ROR come from B xor A", "N and Z of ROR come from its result"),
+    row(
+        Switch::RorNz,
+        "RORNZ",
+        "S6.3",
+        true,
+        "N and Z of ROR come from B xor A",
+        "N and Z of ROR come from its result",
+    ),
     row(
         Switch::Mul33,
         "MUL33",
+        "S6.4",
         true,
         "a stall in clock 33 clears S, and MUL or DIV starts over",
         "clock 33 is held like any other",
     ),
-    row(Switch::DivTop, "DIVTOP", true, "the divider drops bit 31 of the dividend's absolute value", "it is kept"),
+    row(
+        Switch::DivTop,
+        "DIVTOP",
+        "S6.6",
+        true,
+        "the divider drops bit 31 of the dividend's absolute value",
+        "it is kept",
+    ),
     row(
         Switch::NopIrq,
         "NOPIRQ",
+        "S6.7",
         true,
         "no line is looked at while IR = 3BC00H, the program's own too",
         "only a NOP that the circuit put in is passed over",
@@ -86,6 +106,7 @@ pub const TABLE: [Row; 21] = [
     row(
         Switch::Nz,
         "NZ",
+        "S1.18",
         false,
         "every write to a register sets N and Z: LD, links and the interrupt's save too",
         "only operations 0-10 do",
@@ -93,6 +114,7 @@ pub const TABLE: [Row; 21] = [
     row(
         Switch::DivNp,
         "DIVNP",
+        "S1.17",
         false,
         "the divider goes on with a divisor at or below zero and gives what comes out",
         "quotient 0, H the dividend, step registers zero",
@@ -100,6 +122,7 @@ pub const TABLE: [Row; 21] = [
     row(
         Switch::Adr16,
         "ADR16",
+        "S1.22",
         false,
         "addresses have 12 bits, devices are 0FC0H-0FFFH",
         "addresses have 16 bits, devices are FFC0H-FFFFH",
@@ -107,6 +130,7 @@ pub const TABLE: [Row; 21] = [
     row(
         Switch::AckMask,
         "ACKMASK",
+        "S2.3",
         false,
         "the instruction put off acts in the acknowledge clock: stalls, device and memory accesses, mode, flags",
         "nothing of it happens",
@@ -114,6 +138,7 @@ pub const TABLE: [Row; 21] = [
     row(
         Switch::PsrIrq,
         "PSRIRQ",
+        "S2.3",
         false,
         "LDPSR is lost if a line is sampled in its clock",
         "LDPSR is carried out, and no line is sampled in its clock",
@@ -121,15 +146,24 @@ pub const TABLE: [Row; 21] = [
     row(
         Switch::AckLine,
         "ACKLINE",
+        "S2.3",
         false,
         "the vector follows the lines of the acknowledge clock; without a line there is no jump",
         "the vector follows the line that was sampled",
     ),
-    row(Switch::HoldLd, "HOLDLD", false, "stall1 runs on in held clocks", "stall1 is held"),
-    row(Switch::HoldMul, "HOLDMUL", false, "multiplier and divider step on in held clocks", "their steps are held"),
+    row(Switch::HoldLd, "HOLDLD", "S2.2", false, "stall1 runs on in held clocks", "stall1 is held"),
+    row(
+        Switch::HoldMul,
+        "HOLDMUL",
+        "S2.2",
+        false,
+        "multiplier and divider step on in held clocks",
+        "their steps are held",
+    ),
     row(
         Switch::HoldRti,
         "HOLDRTI",
+        "S2.2",
         false,
         "RTI and LDPSR change mode and enables in a held clock already",
         "only in the unheld clock",
@@ -137,6 +171,7 @@ pub const TABLE: [Row; 21] = [
     row(
         Switch::Io1,
         "IO1",
+        "S2.5",
         false,
         "iord in both clocks of LD; iord and iowr in held clocks too",
         "only in the last clock, which is unheld",
@@ -144,6 +179,7 @@ pub const TABLE: [Row; 21] = [
     row(
         Switch::Irq1,
         "IRQ1",
+        "S2.3",
         false,
         "lines are sampled in an instruction's last clock (a taken branch's first); acknowledge and a NOP follow",
         "lines are judged in the clock in which an instruction would begin; that clock is the whole interrupt",
@@ -151,6 +187,7 @@ pub const TABLE: [Row; 21] = [
     row(
         Switch::Reset,
         "RESET",
+        "S1.3",
         false,
         "registers, flags, H, step counters and step registers survive a reset",
         "all are zero, and the cache is empty",
@@ -158,14 +195,16 @@ pub const TABLE: [Row; 21] = [
     row(
         Switch::HoldReg,
         "HOLDREG",
+        "S2.2",
         false,
         "regwr (elided) without the outer stall: results are written in held clocks too",
         "nothing is written in a held clock",
     ),
-    row(Switch::DmIo, "DMIO", false, "a store to a device also writes the local memory", "the device alone"),
+    row(Switch::DmIo, "DMIO", "S1.24", false, "a store to a device also writes the local memory", "the device alone"),
     row(
         Switch::Fill,
         "FILL",
+        "S2.4",
         false,
         "after a reset one clock goes to a NOP while the word at 0 is fetched",
         "the first clock begins the word at 0",
@@ -173,6 +212,7 @@ pub const TABLE: [Row; 21] = [
     row(
         Switch::Memory,
         "MEMORY",
+        "S2.11",
         false,
         "local memory is a block RAM: LD 2 clocks, ST 1, status bit 3 without effect",
         "the clock table's LD 6 and ST 5, or the cache",

@@ -31,7 +31,7 @@ pub struct Wires {
     pub take: bool,
     /// 2 or 3 if the interrupt jumps in this clock.
     pub vector: Option<u32>,
-    /// The operation, or NONE where it is masked.
+    /// The operation, or NONE if it is masked.
     pub op: u32,
     pub a: u32,
     pub b: u32,
@@ -43,7 +43,7 @@ pub struct Wires {
     pub device: bool,
     pub request: Request,
     pub port: Port,
-    /// The stalls that the circuit makes itself, and all of them.
+    /// The stalls that the circuit makes itself; then all of them.
     pub own_stall: bool,
     pub stall0: bool,
     /// A branch that is taken.
@@ -53,7 +53,7 @@ pub struct Wires {
 }
 
 impl Wires {
-    /// What goes into the multiplier (`MUL`) or the divider (`DIV`).
+    /// The inputs of the multiplier (`MUL`) or the divider (`DIV`).
     pub fn inputs(&self, op: u32) -> Inputs {
         Inputs { on: self.op == op, a: self.a, b: self.b, held: self.held }
     }
@@ -68,7 +68,7 @@ impl Wires {
 }
 
 impl Circuit {
-    /// Register `number` of the bank in use.
+    /// Register `number` of the current bank.
     fn register(&self, number: u32) -> u32 {
         self.registers[self.place(number)]
     }
@@ -84,7 +84,7 @@ impl Circuit {
         }
     }
 
-    /// The A operand. MOV with bits 10 and 3 takes H, which the text leaves out.
+    /// The A operand. MOV with bits 10 and 3 takes H, which is missing in the text.
     fn operand(&self, op: u32, aa: u32) -> u32 {
         match self.ir >> 10 & 1 {
             0 => self.ir & 0x3FF,
@@ -102,7 +102,7 @@ impl Circuit {
         }
     }
 
-    /// Which operations write a register; the text leaves it out.
+    /// Which operations write a register; missing in the text.
     fn writes(&self, op: u32) -> bool {
         match op {
             BR => self.ir & 0x700 == 0x600,

@@ -1,6 +1,6 @@
-// The four groups of random images: what their programs and clocks hold, how the switches stand, and what the weight is.
+// The four groups of random images: what their programs and clocks contain, how the switches are set, and how much they show.
 // Paper: "a simulation of the published circuit, its slips above set aside". Source: Part 1.
-// A switch that a group does not name stays on Published, so each group says itself what it sets aside.
+// A switch that a group does not name stays on Published, so each group states what it sets aside.
 use crate::programs::{program, Kind};
 use crate::random::Random;
 use circuit::{Image, Run, Setting, Switch, Switches, TABLE};
@@ -10,19 +10,19 @@ pub struct Group {
     pub weight: &'static str,
     pub kind: Kind,
     pub held: bool,
-    /// The switches set on Document01 beyond those of the group before.
+    /// The switches on Document01, in addition to those of the group before.
     pub more: &'static [Switch],
-    /// Switches that the group's listings must show, beyond those of the group before, when one alone is on Published.
+    /// Switches that the group's listings must show when one alone is on Published, in addition to those of the group before.
     /// In no group: IO1 (no listing has device accesses), RESET (an image has one), PSRIRQ and ACKLINE (they need IRQ1).
     pub shows: &'static [Switch],
 }
 
-/// Images of a group that are run again with a switch turned round.
+/// Images of a group that are run again with a switch inverted.
 pub const AGAIN: u64 = 25;
 
 pub const GROUPS: [Group; 4] = [
     Group {
-        name: "devices only",
+        name: "S8.8 devices only",
         weight: "evidence from the published text: listed slips, NZ, DIVNP, ADR16, IO1, RESET, HOLDREG, DMIO and FILL set aside",
         kind: Kind { interrupts: false, memory: false },
         held: false,
@@ -44,7 +44,7 @@ pub const GROUPS: [Group; 4] = [
         shows: &[Switch::Z32, Switch::RorNz, Switch::DivTop, Switch::Nz, Switch::DivNp, Switch::Fill],
     },
     Group {
-        name: "held clocks",
+        name: "S2.2 held clocks",
         weight: "weaker: HOLDLD, HOLDMUL and HOLDRTI set aside too, so that a held clock stops every register",
         kind: Kind { interrupts: false, memory: false },
         held: true,
@@ -52,7 +52,7 @@ pub const GROUPS: [Group; 4] = [
         shows: &[Switch::Mul33, Switch::HoldLd, Switch::HoldMul, Switch::HoldReg],
     },
     Group {
-        name: "interrupts",
+        name: "S2.3 interrupts",
         weight: "weaker still: ACKMASK, PSRIRQ, ACKLINE and IRQ1 set aside too, so that the interrupt is document 01's",
         kind: Kind { interrupts: true, memory: false },
         held: true,
@@ -60,7 +60,7 @@ pub const GROUPS: [Group; 4] = [
         shows: &[Switch::NopIrq, Switch::HoldRti, Switch::AckMask, Switch::Irq1],
     },
     Group {
-        name: "local memory",
+        name: "S2.11 S2.16 local memory",
         weight: "no evidence from the source: our own reading of document 01's memory and cache",
         kind: Kind { interrupts: true, memory: true },
         held: true,
@@ -75,7 +75,7 @@ pub fn switches(group: usize) -> Switches {
     on.fold(Switches::all(Setting::Published), |all, &switch| all.with(switch, Setting::Document01))
 }
 
-/// Only what the first group's listings show set aside, and nothing else.
+/// Only what the first group's listings show is set aside.
 pub fn fewest() -> Switches {
     let on = GROUPS[0].shows.iter();
     on.fold(Switches::all(Setting::Published), |all, &switch| all.with(switch, Setting::Document01))
@@ -102,21 +102,21 @@ pub fn image(at: usize, seed: u64) -> Image {
     Image { program, data, runs: runs(group, random, clocks) }
 }
 
-/// Line bytes in stretches; a stretch of held clocks is short.
+/// Line bytes in runs of equal bytes; a run of held clocks is short.
 fn runs(group: &Group, random: &mut Random, clocks: u32) -> Vec<Run> {
     let mut runs = Vec::new();
     let mut left = clocks;
-    // The opening runs undisturbed in half of the images.
+    // In half of the images nothing disturbs the opening.
     let mut longest = if random.percent(50) { 60 } else { 5 };
     while left > 0 && runs.len() < 2000 {
         let held = group.held && random.percent(35);
-        let lines = match group.kind.interrupts && random.percent(45) {
+        let interrupt_lines = match group.kind.interrupts && random.percent(45) {
             true => random.bits(2) as u8,
             false => 0,
         };
         let count = random.between(1, if held { 4 } else { longest }).min(left);
         let input = if random.percent(75) { random.bits(32) } else { random.word() };
-        runs.push(Run { count, line: lines | u8::from(held) << 2, input });
+        runs.push(Run { count, line_byte: interrupt_lines | u8::from(held) << 2, input });
         longest = random.pick(&[1, 3, 12, 40, if group.held { 20 } else { 90 }]);
         left -= count;
     }
@@ -126,6 +126,11 @@ fn runs(group: &Group, random: &mut Random, clocks: u32) -> Vec<Run> {
 /// The name of a switch.
 pub fn name(switch: Switch) -> &'static str {
     TABLE[switch as usize].name
+}
+
+/// The name of a switch with the id of its sentence.
+pub fn label(switch: Switch) -> String {
+    format!("{} {}", TABLE[switch as usize].sentence, name(switch))
 }
 
 #[cfg(test)]

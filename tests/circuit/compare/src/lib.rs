@@ -1,6 +1,6 @@
-// Random images: groups of them, programs, and the generator behind both.
-// Paper: "Images and the listing program". Source: Part 1, for what a group's switches say.
-// The program of this package and the one in ../beside both draw their images from here.
+// Random images: groups of them, their programs, and the random generator.
+// Paper: "Images and the listing program". Source: Part 1, for the switches of a group.
+// The program of this package and the one in ../beside both take their images from here.
 #![forbid(unsafe_code)]
 
 pub mod groups;

@@ -1,4 +1,4 @@
-// Holds a listing program against the circuit on random images, and runs the programs of the switches.
+// Compares a listing program with the circuit on random images, and runs the programs of the switches.
 // Paper: "Images and the listing program", misreadings. Source: Part 1.
 // Called: compare --lister PATH [--rounds N] [--seed S]; N images in each group. See tests/circuit/run.
 mod cases;
@@ -11,7 +11,7 @@ use compare::groups::{self, Group, AGAIN, GROUPS};
 use score::{Noticed, Score, Totals};
 use std::path::PathBuf;
 
-/// Images in each group without an option, and the first seed.
+/// Images in each group and the first seed, without options.
 const ROUNDS: u64 = 120;
 const SEED: u64 = 1;
 
@@ -40,7 +40,7 @@ fn options() -> Result<Options, String> {
 /// Both settings of every case, and the programs on which nothing needs to be set aside.
 fn switch_cases(score: &mut Score, noticed: &mut Noticed) {
     for case in cases() {
-        let name = groups::name(case.switch);
+        let name = groups::label(case.switch);
         let expected = [(Setting::Published, &case.published), (Setting::Document01, &case.document01)];
         let results = expected
             .map(|(setting, expect)| cases::run(case.program, case.steps, cases::switches(case, setting), expect));
@@ -57,7 +57,7 @@ fn switch_cases(score: &mut Score, noticed: &mut Noticed) {
     }
 }
 
-/// One image: the listing program against the circuit, and with `again` the circuit with each switch turned round.
+/// One image: the listing program against the circuit, and with `again` the circuit with each switch inverted.
 fn held_against(options: &Options, at: usize, seed: u64, again: bool, noticed: &mut Noticed) -> Result<Totals, String> {
     let image = groups::image(at, seed);
     let bytes = image.bytes();
@@ -115,7 +115,7 @@ fn main() {
     });
     let (mut score, mut noticed) = (Score::default(), Noticed::default());
     switch_cases(&mut score, &mut noticed);
-    println!("programs for the switches: {} results compared", score.passed + score.failed);
+    println!("S8.8 programs for the switches: {} results compared", score.passed + score.failed);
     for at in 0..GROUPS.len() {
         group(&options, at, &mut score, &mut noticed);
     }

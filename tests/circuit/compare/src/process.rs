@@ -1,6 +1,6 @@
-// Starts the listing program on one image and takes what it prints.
+// Runs the listing program on one image and returns what it prints.
 // Paper: "The program `trmlist` reads an image from standard input".
-// Anything but a good end of the program is an error, in words.
+// If the program does not end well, that is an error, as text.
 use std::io::Write;
 use std::path::Path;
 use std::process::{Command, Stdio};
@@ -14,7 +14,7 @@ pub fn listed(lister: &Path, image: &[u8]) -> Result<String, String> {
     let output = std::thread::scope(|scope| {
         scope.spawn(move || {
             if let Some(mut stdin) = stdin {
-                // A program that stops reading is judged by what it prints.
+                // If the program stops reading, only what it prints counts.
                 let _ = stdin.write_all(image);
             }
         });
@@ -27,7 +27,7 @@ pub fn listed(lister: &Path, image: &[u8]) -> Result<String, String> {
     String::from_utf8(output.stdout).map_err(|error| failed("prints no text", error.to_string()))
 }
 
-/// The first line where two listings part, or none.
+/// The first row in which two listings differ, or none.
 pub fn difference(theirs: &str, ours: &str) -> Option<String> {
     if theirs == ours {
         return None;
@@ -36,7 +36,7 @@ pub fn difference(theirs: &str, ours: &str) -> Option<String> {
     for number in 1.. {
         match (left.next(), right.next()) {
             (a, b) if a != b => {
-                let show = |line: Option<&str>| line.unwrap_or("nothing").to_string();
+                let show = |row: Option<&str>| row.unwrap_or("nothing").to_string();
                 return Some(format!("line {number}: listed `{}`, circuit `{}`", show(a), show(b)));
             }
             (None, None) => break,

@@ -1,12 +1,12 @@
 // Random programs: an opening that sets up both banks, interrupt entries at 2 and 3, and a body of random words.
 // Paper: "What a programmer sees". Registers 5 and 6 are device bases in both banks; other bases are local memory.
-// Values come to light in a listing by branches on flags and by jumps through registers; full programs have 4,096 words.
+// Values show in a listing through branches on flags and jumps through registers; full programs have 4,096 words.
 use crate::random::Random;
 use circuit::words::*;
 
 const XOR: u32 = 7;
 
-/// What a group's programs may hold.
+/// What a group's programs may contain.
 #[derive(Clone, Copy)]
 pub struct Kind {
     pub interrupts: bool,
@@ -44,14 +44,14 @@ impl Maker<'_> {
             self.words.push(first);
         }
         self.words.extend([rti(7), NEVER]);
-        // Lines are enabled only when both banks have their bases.
+        // Interrupts are enabled only when both banks have their bases.
         for status in [4, self.status() & 11] {
             self.bases();
             self.words.push(ldpsr(status));
         }
     }
 
-    /// R5 = FFFFFFC0H, R6 = FFFFFF00H, each by one word so that a jump into the opening does no harm; then device 9.
+    /// R5 = FFFFFFC0H, R6 = FFFFFF00H, each by one word, so that a jump into the opening is harmless; then device 9.
     fn bases(&mut self) {
         self.words.extend([literal(NOT, 5, 63), literal(NOT, 6, 255)]);
         for d in [0, 1, 2, 3, 4, 7] {
@@ -106,7 +106,7 @@ impl Maker<'_> {
         }
     }
 
-    /// Base and offset of an access; in programs without local memory always a device.
+    /// Base and offset of an access; always a device in programs without local memory.
     fn place(&mut self) -> (u32, u32) {
         match self.random.below(4) {
             _ if !self.kind.memory => self.device(),
@@ -130,7 +130,7 @@ impl Maker<'_> {
         branch(self.random.bits(4), self.random.between(0, 6) as i32)
     }
 
-    /// A branch back on a bit of an input word, so that the loop ends when the input changes.
+    /// A branch backward on a bit of an input word, so that the loop ends when the input changes.
     fn back(&mut self) {
         let (d, (base, offset)) = (self.target(), self.device());
         let condition = self.random.between(CS, CS + 3);
@@ -138,7 +138,7 @@ impl Maker<'_> {
         self.words.extend([literal(ROR, d, self.random.bits(5)), branch(condition, -3)]);
     }
 
-    /// A jump through a register: its value joined with an input word, so that it shows and no loop stays for ever.
+    /// A jump through a register whose value is combined with an input word, so that it shows and no loop is endless.
     fn jump(&mut self) {
         let (d, s) = (self.target(), self.target());
         let t = if s == 0 { 1 } else { 0 };
@@ -154,7 +154,7 @@ impl Maker<'_> {
             }
         }
         let unused = self.noise(0xF8);
-        // Mostly the register changes too, so that a word that jumps to itself does so once.
+        // Usually the register changes too, so that a word that jumps to itself does so once.
         let word = match self.random.below(10) {
             0 => jump_link(d, s),
             1 => rti(s) | self.noise(0x3A00),

@@ -1,6 +1,6 @@
 // A small generator of random numbers (splitmix64), the same for the same seed.
-// Paper: none of it.
-// Words are often near an edge, since that is where arithmetic and addresses go wrong.
+// Paper: nothing.
+// Words are often near an edge, where arithmetic and addresses are likely to be wrong.
 
 pub struct Random(u64);
 
@@ -27,7 +27,7 @@ impl Random {
         (self.draw() % u64::from(limit)) as u32
     }
 
-    /// `low` to `high`, both met.
+    /// `low` to `high`, both included.
     pub fn between(&mut self, low: u32, high: u32) -> u32 {
         low + self.below(high - low + 1)
     }

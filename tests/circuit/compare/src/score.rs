@@ -1,6 +1,6 @@
-// What was compared and with what outcome: passes and failures, totals of a group, which switch is noticed where.
-// Paper: none of it.
-// A switch must be noticed by its programs, and by the groups of images that say so.
+// What was compared and the outcome: passes and failures, totals of a group, which switch is noticed where.
+// Paper: nothing.
+// A switch must be noticed by its programs, and by the groups of images that list it.
 use circuit::{Listing, Row, Switch, TABLE};
 use compare::groups::{must_show, GROUPS};
 use std::fmt;
@@ -80,18 +80,18 @@ impl Noticed {
         *of += 1;
     }
 
-    /// Prints what each switch on Published alone changes; one failure for each that is not noticed where it must be.
-    /// Groups are judged only if enough of their images were run again.
+    /// Prints what each switch on Published alone changes; a failure for each that is not noticed where it must be.
+    /// Groups are checked only if enough of their images were run again.
     pub fn judge(&self, score: &mut Score, groups: bool) {
         println!("one switch on Published: noticed by its program, and in how many images of each group");
         for (at, row) in TABLE.iter().enumerate() {
-            let Row { name, listed, .. } = row;
+            let Row { name, sentence, listed, .. } = row;
             let count = |&(found, of): &(u64, u64)| if of == 0 { "-".into() } else { format!("{found}/{of}") };
             let counts: String = self.images[at].iter().map(|pair| format!(" {:>6}", count(pair))).collect();
             let listed = if *listed { "listed" } else { "" };
             let program = if self.programs[at] { "program" } else { "no program" };
-            println!("{at:>4} {name:8} {listed:6} {program:10}{counts}");
-            score.judge(name, self.seen(row.switch, groups));
+            println!("{at:>4} {sentence:5} {name:8} {listed:6} {program:10}{counts}");
+            score.judge(&format!("{sentence} {name}"), self.seen(row.switch, groups));
         }
     }
 

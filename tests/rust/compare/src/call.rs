@@ -1,11 +1,12 @@
-// A call with all it is lent, carried out on one side, and what came of it.
+// A call with everything that is lent to it, executed on one side, and its outcome.
 // Paper: the calls of "Clock by clock"; "It returns the number only and writes nothing".
-// Lent words stand between guard words, so that a write beside them is seen.
+// Lent words are between guard words, so that a write outside them is detected.
 use crate::fields;
 use crate::library::Machine;
+use crate::sentences;
 use crate::side::Side;
 
-/// What every call but reset and watch is lent beside its own inputs.
+/// What is lent to every call but reset and watch, in addition to its own inputs.
 #[derive(Clone)]
 pub struct Lent {
     pub machine: Machine,
@@ -17,12 +18,12 @@ pub struct Lent {
 pub enum Call {
     Reset,
     Clock {
-        line: u8,
+        line_byte: u8,
         input: u32,
     },
-    /// The answer buffers are given with their old contents.
+    /// The answer buffers with their old contents.
     Run {
-        lines: Vec<u8>,
+        line_bytes: Vec<u8>,
         inputs: Vec<u32>,
         bytes: Vec<u8>,
         words: Vec<u32>,
@@ -39,7 +40,7 @@ pub enum Call {
     },
 }
 
-/// Everything that a call may have changed or answered.
+/// Everything that a call may have changed or returned.
 #[derive(Clone)]
 pub struct Outcome {
     pub number: u32,
@@ -47,7 +48,7 @@ pub struct Outcome {
     pub store: Vec<u32>,
     pub bytes: Vec<u8>,
     pub words: Vec<u32>,
-    /// Byte, word, finished; used; found and clock of a watch: each zero where the call has no such answer.
+    /// Byte, word, finished; used; found and clock of a watch: each zero if the call does not return it.
     pub answers: [(&'static str, u64); 6],
     /// No guard word was written.
     pub guarded: bool,
@@ -64,7 +65,7 @@ struct Fenced<T: Copy + PartialEq> {
 }
 
 impl<T: Copy + PartialEq> Fenced<T> {
-    /// Made in `room`, whose items are lost and whose memory is used again.
+    /// Built in `room`, whose items are overwritten.
     fn new(items: &[T], fence: T, mut room: Vec<T>) -> Fenced<T> {
         let guard = [fence; GUARD];
         room.clear();
@@ -80,7 +81,7 @@ impl<T: Copy + PartialEq> Fenced<T> {
         &mut self.items[GUARD..end]
     }
 
-    /// The items and whether the guards are whole.
+    /// The items, and whether the guards are unchanged.
     fn back(mut self) -> (Vec<T>, bool) {
         let end = self.items.len() - GUARD;
         let guards = self.items[..GUARD].iter().chain(&self.items[end..]);
@@ -92,7 +93,7 @@ impl<T: Copy + PartialEq> Fenced<T> {
 }
 
 impl Call {
-    /// Carries the call out on a copy of the store, which is made in `room`.
+    /// Executes the call on a copy of the store, which is made in `room`.
     pub fn perform(&self, side: &dyn Side, lent: &Lent, room: Vec<u32>) -> Outcome {
         let mut store = Fenced::new(&lent.store, FENCE, room);
         let mut bytes = Fenced::new(self.bytes(), FENCE_BYTE, Vec::new());
@@ -106,15 +107,15 @@ impl Call {
                 machine = answer.machine;
                 answer.number
             }
-            Call::Clock { line, input } => {
-                let answer = side.clock(m, program, store.lend(), *line, *input);
+            Call::Clock { line_byte, input } => {
+                let answer = side.clock(m, program, store.lend(), *line_byte, *input);
                 machine = answer.machine;
                 (answers[0].1, answers[1].1) = (answer.byte.into(), answer.word.into());
                 answers[2].1 = answer.finished;
                 answer.number
             }
-            Call::Run { lines, inputs, .. } => {
-                let answer = side.run(m, program, store.lend(), lines, inputs, bytes.lend(), words.lend());
+            Call::Run { line_bytes, inputs, .. } => {
+                let answer = side.run(m, program, store.lend(), line_bytes, inputs, bytes.lend(), words.lend());
                 machine = answer.machine;
                 (answers[2].1, answers[3].1) = (answer.finished, answer.used);
                 answer.number
@@ -152,11 +153,11 @@ impl Call {
         }
     }
 
-    /// The number of clocks the call carries out if it is accepted.
+    /// The number of clocks that the call runs if it is accepted.
     pub fn clocks(&self) -> u64 {
         match self {
             Call::Clock { .. } => 1,
-            Call::Run { lines, .. } => lines.len() as u64,
+            Call::Run { line_bytes, .. } => line_bytes.len() as u64,
             _ => 0,
         }
     }
@@ -172,14 +173,25 @@ impl Call {
         }
     }
 
-    /// In a few words, for a report.
+    /// The sentence on the call.
+    pub fn sentence(&self) -> &'static str {
+        match self {
+            Call::Reset => "S1.3",
+            Call::Clock { .. } => "S2.31",
+            Call::Run { .. } => "S2.33",
+            Call::Look { .. } | Call::Copy { .. } => "S2.35",
+            Call::Watch { .. } => "S2.37",
+        }
+    }
+
+    /// A short text for a report.
     pub fn describe(&self) -> String {
         match self {
             Call::Reset => "reset".into(),
-            Call::Clock { line, input } => format!("clock, line byte {line}, input word {input:X}H"),
-            Call::Run { lines, inputs, bytes, words } => {
-                let sizes = (lines.len(), inputs.len(), bytes.len(), words.len());
-                let first: Vec<u8> = lines.iter().take(200).copied().collect();
+            Call::Clock { line_byte, input } => format!("clock, line byte {line_byte}, input word {input:X}H"),
+            Call::Run { line_bytes, inputs, bytes, words } => {
+                let sizes = (line_bytes.len(), inputs.len(), bytes.len(), words.len());
+                let first: Vec<u8> = line_bytes.iter().take(200).copied().collect();
                 format!("run, lengths of lines, inputs, bytes, words {sizes:?}, first line bytes {first:?}")
             }
             Call::Look { address } => format!("look at {address:X}H"),
@@ -189,10 +201,11 @@ impl Call {
     }
 }
 
-/// The first place in which two outcomes of one call differ. The watch's choice is judged elsewhere.
+/// The first difference between two outcomes of one call. The watch's choice is checked elsewhere.
 pub fn difference(call: &Call, left: &Outcome, right: &Outcome) -> Option<String> {
     if left.number != right.number {
-        return Some(format!("number: {} against {}", left.number, right.number));
+        let row = sentences::rows(left.number, right.number);
+        return Some(format!("{row} number: {} against {}", left.number, right.number));
     }
     let answers = || {
         let pairs = left.answers.iter().zip(&right.answers);
@@ -203,13 +216,13 @@ pub fn difference(call: &Call, left: &Outcome, right: &Outcome) -> Option<String
     if left.machine != right.machine {
         return fields::difference(&left.machine, &right.machine);
     }
-    place("store word", &left.store, &right.store)
+    place("S2.16 store word", &left.store, &right.store)
         .or_else(answers)
-        .or_else(|| place("answer byte", &left.bytes, &right.bytes))
+        .or_else(|| place("S2.34 answer byte", &left.bytes, &right.bytes))
         .or_else(|| place("answer or copied word", &left.words, &right.words))
 }
 
-/// Whether a refused call left all as it was: record, store, buffers, and no answers.
+/// What a refused call changed of record, store and buffers, or answered; none if nothing.
 pub fn untouched(call: &Call, lent: &Lent, outcome: &Outcome) -> Option<String> {
     let zeros = crate::side::zeros();
     let given = if matches!(call, Call::Reset) { &zeros } else { &lent.machine };
@@ -219,8 +232,8 @@ pub fn untouched(call: &Call, lent: &Lent, outcome: &Outcome) -> Option<String> 
     if outcome.machine != *given {
         return fields::difference(given, &outcome.machine);
     }
-    place("store word", &lent.store, &outcome.store)
-        .or_else(|| place("answer byte", call.bytes(), &outcome.bytes))
+    place("S2.16 store word", &lent.store, &outcome.store)
+        .or_else(|| place("S2.34 answer byte", call.bytes(), &outcome.bytes))
         .or_else(|| place("answer or copied word", call.words(), &outcome.words))
 }
 

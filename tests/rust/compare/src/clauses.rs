@@ -1,14 +1,17 @@
 // Part 4: every clause of row 5 and of the phase rule, as pairs of an accepted record and a refused neighbour.
 // Paper: row 5 of "Where calls are turned down"; "The record holds phase and count"; the closed formulas.
-// Records and expected numbers are made by hand from the paper, so neither side decides what is right.
+// Records and expected numbers are written by hand from the paper, so neither side decides what is right.
 use crate::call::{Call, Lent};
 use crate::check::Check;
 use crate::programs::{branch, call, jump, literal, load, register, status, store};
 use crate::side::zeros;
 
-/// Pairs gathered so far: name, accepted, refused with 5.
+/// The pairs so far: name, accepted, refused with 5. A name has the ids of its part.
 #[derive(Default)]
-pub struct Pairs(Vec<(String, Lent, Lent)>);
+pub struct Pairs {
+    ids: &'static str,
+    all: Vec<(String, Lent, Lent)>,
+}
 
 type Change = fn(&mut Lent);
 
@@ -16,10 +19,10 @@ impl Pairs {
     fn pair(&mut self, name: &str, good: &Lent, change: Change) {
         let mut bad = good.clone();
         change(&mut bad);
-        self.0.push((name.into(), good.clone(), bad));
+        self.all.push((format!("{}, clause \"{name}\"", self.ids), good.clone(), bad));
     }
 
-    /// The same neighbour of several accepted records.
+    /// The same change to several accepted records.
     fn each(&mut self, name: &str, goods: &[(&str, Lent)], change: Change) {
         for (which, good) in goods {
             self.pair(&format!("{name}, {which}"), good, change);
@@ -27,43 +30,51 @@ impl Pairs {
     }
 }
 
-/// Checks all pairs by every call that takes a record; gives their number.
+/// The parts, each with the ids of the sentences of its clauses.
+const PARTS: [(&str, fn(&mut Pairs)); 14] = [
+    ("S3.7 S1.1", widths),
+    ("S3.7 S2.29", counts),
+    ("S3.7 S2.21", lines),
+    ("S3.7 S2.15", idle_registers),
+    ("S3.7 S2.13", multiplier),
+    ("S3.7 S2.14", divider),
+    ("S3.7 S2.25 S2.27", write_back),
+    ("S3.7 S2.25 S2.27", emptying),
+    ("S3.7 S2.25 S2.27", refill),
+    ("S3.7 S2.25 S2.27", uncached),
+    ("S3.7 S2.25 S2.27", last_jumps),
+    ("S3.7 S2.25 S2.27", last_emptying),
+    ("S3.7 S2.25 S2.27", last_access),
+    ("S3.7 S1.22 S1.24", addresses),
+];
+
+/// Checks all pairs by every call that takes a record; returns their number.
 pub fn clauses(check: &mut Check) -> usize {
     let mut pairs = Pairs::default();
-    widths(&mut pairs);
-    counts(&mut pairs);
-    lines(&mut pairs);
-    idle_registers(&mut pairs);
-    multiplier(&mut pairs);
-    divider(&mut pairs);
-    write_back(&mut pairs);
-    emptying(&mut pairs);
-    refill(&mut pairs);
-    uncached(&mut pairs);
-    last_jumps(&mut pairs);
-    last_emptying(&mut pairs);
-    last_access(&mut pairs);
-    addresses(&mut pairs);
-    for (name, good, bad) in &pairs.0 {
+    for (ids, part) in PARTS {
+        pairs.ids = ids;
+        part(&mut pairs);
+    }
+    for (name, good, bad) in &pairs.all {
         for call in calls(good) {
-            check.expect(good, &call, 0, &format!("clause \"{name}\", the accepted record"));
-            check.expect(bad, &call, 5, &format!("clause \"{name}\", the refused neighbour"));
+            check.expect(good, &call, 0, &format!("{name}, the accepted record"));
+            check.expect(bad, &call, 5, &format!("{name}, the refused neighbour"));
         }
         check.pass();
     }
-    pairs.0.len()
+    pairs.all.len()
 }
 
 fn calls(lent: &Lent) -> Vec<Call> {
     let run = |count: usize| Call::Run {
-        lines: vec![0; count],
+        line_bytes: vec![0; count],
         inputs: vec![9; count],
         bytes: vec![0xEE; count],
         words: vec![0xEEEE_EEEE; count],
     };
     let mut calls = vec![run(0)];
     if lent.machine.clocks < 0xFFFF_FFF0 {
-        calls.extend([Call::Clock { line: 0, input: 5 }, Call::Clock { line: 4, input: 5 }, run(3)]);
+        calls.extend([Call::Clock { line_byte: 0, input: 5 }, Call::Clock { line_byte: 4, input: 5 }, run(3)]);
     }
     calls.extend([Call::Look { address: 3 }, Call::Copy { buffer: vec![0xEEEE_EEEE; lent.store.len()] }]);
     calls
@@ -82,7 +93,7 @@ fn with(mut lent: Lent, change: Change) -> Lent {
     lent
 }
 
-/// Cache on.
+/// The same with the cache on.
 fn cached(word: u32, size: usize) -> Lent {
     with(ready(word, size), |l| l.machine.status = 8)
 }

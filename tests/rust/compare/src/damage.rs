@@ -1,6 +1,6 @@
 // Part 3: accepted records damaged in one field at a time, by edge values and random ones.
 // Paper: row 5 of "Where calls are turned down", and row 4 for the store's length.
-// Both sides must give the same number, and the same outcome where the damaged record is still accepted.
+// Both sides must return the same number, and the same outcome if the damaged record is still accepted.
 use crate::call::Call;
 use crate::check::Check;
 use crate::fields::{self, Field};
@@ -9,13 +9,13 @@ use crate::programs;
 use crate::random::Random;
 use crate::records::{accepted, KINDS};
 
-/// One accepted record of each kind, and all its fields in turn.
+/// Damages all fields in turn of one accepted record of each kind.
 pub fn sweep(check: &mut Check, random: &mut Random) {
     for kind in KINDS {
         let lent = accepted(random, kind);
-        let lines = programs::lines(random, 1);
-        let call = Call::Clock { line: lines[0], input: random.word() };
-        check.expect(&lent, &call, 0, &format!("a record made for {kind:?}, before its damage"));
+        let line_bytes = programs::line_bytes(random, 1);
+        let call = Call::Clock { line_byte: line_bytes[0], input: random.word() };
+        check.expect(&lent, &call, 0, &format!("S2.27 a record made for {kind:?}, before its damage"));
         let mut damaged = lent.clone();
         for field in fields::all() {
             if matches!(field, Field::Word(_)) && random.percent(97) {

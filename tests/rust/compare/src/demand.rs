@@ -1,6 +1,6 @@
-// Part 6: a list of calls after one reset, held against the plain machine of demand 3.
+// Part 6: a list of calls after one reset, compared with the plain machine of demand 3.
 // Paper: "The plain machine of demand 3", "Demand 3 is one statement on the whole list".
-// Clocks and runs of any length, refused calls between them; no accepted list may meet the number 5.
+// Clocks and runs of any length with refused calls between them; no list may meet the number 5.
 use crate::call::{Call, Lent, Outcome};
 use crate::check::Check;
 use crate::library::Machine;
@@ -17,7 +17,7 @@ pub fn demand(check: &mut Check, random: &mut Random) {
     let mut plain = Plain::new(&lent.store);
     for _ in 0..random.between(5, 25) {
         let mut call = match random.below(3) {
-            0 => Call::Clock { line: programs::lines(random, 1)[0], input: random.word() },
+            0 => Call::Clock { line_byte: programs::line_bytes(random, 1)[0], input: random.word() },
             _ => {
                 let count = random.pick(&[0, 1, 2, 10, 40, 100, 300]);
                 let count = random.below(count + 1) as usize;
@@ -30,7 +30,7 @@ pub fn demand(check: &mut Check, random: &mut Random) {
         }
         let outcome = check.call(&lent, &call);
         if outcome.number == 5 || (outcome.number != 0 && !faulty) {
-            check.fail(&format!("a call of the list is answered with {}", outcome.number));
+            check.fail(&format!("S2.45 a call of the list is answered with {}", outcome.number));
         }
         if outcome.number == 0 {
             follow(check, &lent, &call, &outcome, &mut plain);
@@ -40,34 +40,34 @@ pub fn demand(check: &mut Check, random: &mut Random) {
     }
 }
 
-/// Feeds the plain machine the clocks of an accepted call and compares the answers.
+/// Runs the clocks of an accepted call on the plain machine and compares the answers.
 fn follow(check: &Check, lent: &Lent, call: &Call, outcome: &Outcome, plain: &mut Plain) {
     let before = plain.finished;
     match call {
-        Call::Clock { line, input } => {
-            let moved = plain.clock(&lent.program, *line, *input);
+        Call::Clock { line_byte, input } => {
+            let moved = plain.clock(&lent.program, *line_byte, *input);
             let answer = (outcome.answers[0].1 as u8, outcome.answers[1].1 as u32);
             if moved != answer {
-                check.fail(&format!("clock answer {answer:?}, plain machine {moved:?}"));
+                check.fail(&format!("S2.43 clock answer {answer:?}, plain machine {moved:?}"));
             }
         }
-        Call::Run { lines, inputs, .. } => {
-            for (clock, (&line, &input)) in lines.iter().zip(inputs).enumerate() {
-                let moved = plain.clock(&lent.program, line, input);
+        Call::Run { line_bytes, inputs, .. } => {
+            for (clock, (&line_byte, &input)) in line_bytes.iter().zip(inputs).enumerate() {
+                let moved = plain.clock(&lent.program, line_byte, input);
                 let answer = (outcome.bytes[clock], outcome.words[clock]);
                 if moved != answer {
-                    check.fail(&format!("clock {clock} of a run answers {answer:?}, plain machine {moved:?}"));
+                    check.fail(&format!("S2.43 clock {clock} of a run answers {answer:?}, plain machine {moved:?}"));
                 }
             }
-            if outcome.answers[3].1 != lines.len() as u64 {
-                check.fail(&format!("clocks used {} for {} line bytes", outcome.answers[3].1, lines.len()));
+            if outcome.answers[3].1 != line_bytes.len() as u64 {
+                check.fail(&format!("S2.47 clocks used {} for {} line bytes", outcome.answers[3].1, line_bytes.len()));
             }
         }
         _ => (),
     }
     let finished = plain.finished - before;
     if outcome.answers[2].1 != finished {
-        check.fail(&format!("instructions finished {}, plain machine {finished}", outcome.answers[2].1));
+        check.fail(&format!("S2.47 instructions finished {}, plain machine {finished}", outcome.answers[2].1));
     }
 }
 
@@ -75,17 +75,17 @@ fn compare(check: &mut Check, lent: &Lent, plain: &Plain) {
     let m = &lent.machine;
     let [n, z, c, v] = plain.flags.map(u64::from);
     let numbers = [
-        ("PC", m.pc, plain.pc as u64),
-        ("H", m.h.into(), plain.h.into()),
-        ("status", m.status.into(), plain.status.into()),
-        ("N", m.n, n),
-        ("Z", m.z, z),
-        ("C", m.c, c),
-        ("V", m.v, v),
-        ("clock count", m.clocks, plain.clocks),
-        ("held count", m.held, plain.held),
-        ("refill count", m.refills, plain.refills),
-        ("write-back count", m.writebacks, plain.writebacks),
+        ("S2.43 PC", m.pc, plain.pc as u64),
+        ("S2.43 H", m.h.into(), plain.h.into()),
+        ("S2.43 status", m.status.into(), plain.status.into()),
+        ("S2.43 N", m.n, n),
+        ("S2.43 Z", m.z, z),
+        ("S2.43 C", m.c, c),
+        ("S2.43 V", m.v, v),
+        ("S2.40 clock count", m.clocks, plain.clocks),
+        ("S2.40 held count", m.held, plain.held),
+        ("S2.44 refill count", m.refills, plain.refills),
+        ("S2.44 write-back count", m.writebacks, plain.writebacks),
     ];
     for (name, left, right) in numbers {
         if left != right {
@@ -93,12 +93,13 @@ fn compare(check: &mut Check, lent: &Lent, plain: &Plain) {
         }
     }
     if m.regs != plain.registers {
-        check.fail(&format!("registers {:X?} in the record, {:X?} in the plain machine", m.regs, plain.registers));
+        check
+            .fail(&format!("S2.43 registers {:X?} in the record, {:X?} in the plain machine", m.regs, plain.registers));
     }
     memory(check, lent, m, plain);
 }
 
-/// Data memory as a copy gives it, or without the call by the sentence on looks.
+/// Data memory by a copy, or computed by the paper's sentence on looks.
 fn memory(check: &mut Check, lent: &Lent, m: &Machine, plain: &Plain) {
     let mut seen = lent.store.clone();
     for line in (0..16).filter(|&line| m.full[line] == 1) {
@@ -106,10 +107,10 @@ fn memory(check: &mut Check, lent: &Lent, m: &Machine, plain: &Plain) {
         seen[first..first + 8].copy_from_slice(&m.words[line * 8..line * 8 + 8]);
     }
     if seen != plain.memory {
-        check.fail("data memory differs from the plain machine's");
+        check.fail("S2.43 data memory differs from the plain machine's");
     }
     let copied = check.call(lent, &Call::Copy { buffer: vec![0xEEEE; lent.store.len()] });
     if copied.number != 0 || copied.words != plain.memory {
-        check.fail("a copy differs from the plain machine's memory");
+        check.fail("S2.35 a copy differs from the plain machine's memory");
     }
 }

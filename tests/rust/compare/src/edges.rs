@@ -1,10 +1,11 @@
-// Part 7: arithmetic of 0-10 on all pairs of edge words, held against the plain machine's wide integers.
+// Part 7: arithmetic of 0-10 on all pairs of edge words, compared with the plain machine's wide integers.
 // Paper: operations 0-10 and their flags; the starred "Bench cases" are among the pairs.
-// One word is carried out from ready, clock by clock in one run; registers, H and flags are then compared.
+// One word is executed from ready, in one run; then registers, H and flags are compared.
 use crate::call::{Call, Lent};
 use crate::check::Check;
 use crate::plain::Plain;
 use crate::programs::{literal, register};
+use crate::sentences;
 use crate::side::zeros;
 
 const WORDS: [u32; 24] = [
@@ -34,7 +35,7 @@ const WORDS: [u32; 24] = [
     0xFFFF_FFFF,
 ];
 
-/// Checks all pairs; gives their number.
+/// Checks all pairs; returns their number.
 pub fn edges(check: &mut Check) -> usize {
     let mut pairs = 0;
     for operation in 0..=10 {
@@ -54,6 +55,7 @@ pub fn edges(check: &mut Check) -> usize {
 }
 
 fn carry_out(check: &mut Check, word: u32, b: u32, a: u32) {
+    let label = sentences::operation(word >> 14);
     let clocks = if matches!(word >> 14, 8 | 9) { 33 } else { 1 };
     let store = vec![0; 64];
     let mut plain = Plain::new(&store);
@@ -64,8 +66,8 @@ fn carry_out(check: &mut Check, word: u32, b: u32, a: u32) {
     (plain.registers, plain.h) = (machine.regs, machine.h);
     let lent = Lent { machine, program: vec![word], store };
     let bytes = vec![0xEE; clocks];
-    let call = Call::Run { lines: vec![0; clocks], inputs: vec![0; clocks], bytes, words: vec![0xEE; clocks] };
-    let outcome = check.expect(&lent, &call, 0, "one word of arithmetic");
+    let call = Call::Run { line_bytes: vec![0; clocks], inputs: vec![0; clocks], bytes, words: vec![0xEE; clocks] };
+    let outcome = check.expect(&lent, &call, 0, &format!("{label} one word of arithmetic"));
     for _ in 0..clocks {
         plain.clock(&lent.program, 0, 0);
     }
@@ -73,7 +75,7 @@ fn carry_out(check: &mut Check, word: u32, b: u32, a: u32) {
     let seen = (m.regs, m.h, [m.n, m.z, m.c, m.v].map(|flag| flag == 1), m.pc as usize, outcome.answers[2].1);
     if seen != (plain.registers, plain.h, plain.flags, plain.pc, plain.finished) {
         let (ours, plains) = ((m.regs[1], m.h), (plain.registers[1], plain.h));
-        let pair = format!("word {word:05X}H with B {b:X}H and A {a:X}H");
+        let pair = format!("{label} word {word:05X}H with B {b:X}H and A {a:X}H");
         check.fail(&format!("{pair}: R1 and H {ours:X?}, plain machine {plains:X?}; or the flags differ"));
     }
 }

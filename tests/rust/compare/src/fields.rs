@@ -84,6 +84,23 @@ impl Field {
         }
     }
 
+    /// The sentence that says what the field holds after a call.
+    fn sentence(self) -> &'static str {
+        match self {
+            Field::H | Field::Status | Field::Pc | Field::Register(_) => "S2.5",
+            Field::N | Field::Z => "S1.18",
+            Field::C | Field::V => "S1.19",
+            Field::Phase | Field::Count => "S2.25",
+            Field::Product => "S2.13",
+            Field::Remainder | Field::Quotient => "S2.14",
+            Field::Size => "S3.6",
+            Field::Clocks | Field::Held => "S2.2",
+            Field::Refills | Field::Writebacks => "S2.29",
+            Field::Full(_) | Field::Dirty(_) | Field::Block(_) => "S2.20",
+            Field::Word(_) => "S2.19",
+        }
+    }
+
     /// The 64-bit fields.
     fn wide(self, m: &mut Machine) -> Option<&mut u64> {
         Some(match self {
@@ -110,5 +127,6 @@ impl Field {
 /// The first field in which two records differ.
 pub fn difference(left: &Machine, right: &Machine) -> Option<String> {
     let field = all().into_iter().find(|field| field.get(left) != field.get(right))?;
-    Some(format!("record {field:?}: {:X}H against {:X}H", field.get(left), field.get(right)))
+    let (label, old, new) = (field.sentence(), field.get(left), field.get(right));
+    Some(format!("{label} record {field:?}: {old:X}H against {new:X}H"))
 }

@@ -1,20 +1,20 @@
-// The library as one of the sides that are compared.
+// The library as one of the two sides.
 // Paper: the calls; "Later a second entry lends the record itself for one clock, with the same outcome".
 // The C interface itself is `raw` of the package bindings/rust.
 use crate::side::Side;
 use trm::raw;
 pub use trm::raw::{ClockValueAnswer, LookAnswer, Machine, ResetAnswer, RunAnswer, WatchAnswer};
 
-/// The library, a clock taking the record by value, or lent.
+/// The library, with the record of a clock by value or lent.
 pub enum Library {
     ByValue,
     Lending,
 }
 
-/// The lent clock on a copy of the record; its answer, and the record as it was left.
-fn clock_lent(m: &Machine, program: &[u32], store: &mut [u32], line: u8, input: u32) -> ClockValueAnswer {
+/// The lent clock on a copy of the record; its answer, and the record after it.
+fn clock_lent(m: &Machine, program: &[u32], store: &mut [u32], line_byte: u8, input: u32) -> ClockValueAnswer {
     let mut machine = *m;
-    let raw::ClockAnswer { number, byte, word, finished } = raw::clock(&mut machine, program, store, line, input);
+    let raw::ClockAnswer { number, byte, word, finished } = raw::clock(&mut machine, program, store, line_byte, input);
     ClockValueAnswer { machine, number, byte, word, finished }
 }
 
@@ -23,10 +23,10 @@ impl Side for Library {
         raw::reset(store)
     }
 
-    fn clock(&self, m: &Machine, program: &[u32], store: &mut [u32], line: u8, input: u32) -> ClockValueAnswer {
+    fn clock(&self, m: &Machine, program: &[u32], store: &mut [u32], line_byte: u8, input: u32) -> ClockValueAnswer {
         match self {
-            Library::ByValue => raw::clock_value(m, program, store, line, input),
-            Library::Lending => clock_lent(m, program, store, line, input),
+            Library::ByValue => raw::clock_value(m, program, store, line_byte, input),
+            Library::Lending => clock_lent(m, program, store, line_byte, input),
         }
     }
 
@@ -35,12 +35,12 @@ impl Side for Library {
         m: &Machine,
         program: &[u32],
         store: &mut [u32],
-        lines: &[u8],
+        line_bytes: &[u8],
         inputs: &[u32],
         bytes: &mut [u8],
         words: &mut [u32],
     ) -> RunAnswer {
-        raw::run(m, program, store, lines, inputs, bytes, words)
+        raw::run(m, program, store, line_bytes, inputs, bytes, words)
     }
 
     fn look(&self, m: &Machine, program: &[u32], store: &[u32], address: u32) -> LookAnswer {

@@ -1,6 +1,6 @@
 // Part 1: random lists of calls from a reset, good and refused ones mixed.
 // Paper: all calls; every row of "Where calls are turned down" from 3 to 9.
-// After each call everything is compared; a refused call must leave all as it was, and the list goes on from there.
+// After each call everything is compared; a refused call must change nothing, and the list continues from there.
 use crate::call::{Call, Lent};
 use crate::check::Check;
 use crate::damage;
@@ -52,7 +52,7 @@ fn prepare(check: &mut Check, random: &mut Random, lent: &mut Lent) {
         4 => lent.machine.pc = random.below(length + 2) & 0xFFF,
         _ => return,
     }
-    let none = Call::Run { lines: vec![], inputs: vec![], bytes: vec![], words: vec![] };
+    let none = Call::Run { line_bytes: vec![], inputs: vec![], bytes: vec![], words: vec![] };
     if check.call(lent, &none).number != 0 {
         *lent = before;
     }
@@ -60,7 +60,7 @@ fn prepare(check: &mut Check, random: &mut Random, lent: &mut Lent) {
 
 fn good(random: &mut Random, lent: &Lent, bytes: &[u8]) -> Call {
     match random.below(100) {
-        0..=28 => Call::Clock { line: programs::lines(random, 1)[0], input: random.word() },
+        0..=28 => Call::Clock { line_byte: programs::line_bytes(random, 1)[0], input: random.word() },
         29..=77 => run(random),
         78..=79 => Call::Reset,
         80..=88 => Call::Look { address: random.below(0xFFC0) as u32 },
@@ -81,9 +81,9 @@ fn run(random: &mut Random) -> Call {
 }
 
 pub fn run_of(random: &mut Random, count: usize) -> Call {
-    let lines = programs::lines(random, count);
+    let line_bytes = programs::line_bytes(random, count);
     let bytes = (0..count).map(|_| random.bits(8) as u8 | 1).collect();
-    Call::Run { lines, inputs: random.words(count), bytes, words: random.words(count) }
+    Call::Run { line_bytes, inputs: random.words(count), bytes, words: random.words(count) }
 }
 
 /// A watch on the bytes of the last run, or on any bytes.
@@ -101,7 +101,7 @@ fn watch(random: &mut Random, bytes: &[u8]) -> Call {
     Call::Watch { bytes: (0..count).map(|_| random.bits(8) as u8).collect(), device }
 }
 
-/// One fault, of a row that the call takes (or harmless where it does not).
+/// Adds one fault, of a row that the call checks (or a harmless one if it does not).
 fn spoil(random: &mut Random, given: &mut Lent, call: &mut Call) {
     match random.below(6) {
         0 => spoil_program(random, &mut given.program),
@@ -133,11 +133,11 @@ fn spoil_store(random: &mut Random, store: &mut Vec<u32>) {
 
 pub fn spoil_call(random: &mut Random, call: &mut Call) {
     match call {
-        Call::Clock { line, .. } => *line = random.between(8, 255) as u8,
-        Call::Run { lines, inputs, bytes, words } => match random.below(8) {
-            0 if !lines.is_empty() => {
-                let at = random.below(lines.len() as u64) as usize;
-                lines[at] = random.between(8, 255) as u8;
+        Call::Clock { line_byte, .. } => *line_byte = random.between(8, 255) as u8,
+        Call::Run { line_bytes, inputs, bytes, words } => match random.below(8) {
+            0 if !line_bytes.is_empty() => {
+                let at = random.below(line_bytes.len() as u64) as usize;
+                line_bytes[at] = random.between(8, 255) as u8;
             }
             1 => inputs.push(7),
             2 => drop(inputs.pop()),
@@ -146,7 +146,7 @@ pub fn spoil_call(random: &mut Random, call: &mut Call) {
             5 => words.push(7),
             6 => drop(words.pop()),
             _ => {
-                lines.resize(65537, 0);
+                line_bytes.resize(65537, 0);
                 inputs.resize(65537, 0);
             }
         },

@@ -1,4 +1,4 @@
-// Holds the library against the simulator, call by call, and counts what was compared.
+// Compares the library with the simulator, call by call, and counts what was compared.
 // Paper: all of it but images and the listing program.
 // Called: compare [--rounds N | --seconds N] [--seed S] [--part P]; see tests/rust/run.
 mod call;
@@ -14,6 +14,7 @@ mod plain;
 mod programs;
 mod random;
 mod records;
+mod sentences;
 mod side;
 mod table;
 mod tally;
@@ -22,7 +23,7 @@ use check::Check;
 use random::Random;
 use std::time::{Duration, Instant};
 
-/// Rounds without an option, and the seed of the first.
+/// Rounds and the first seed, without options.
 const ROUNDS: u64 = 3000;
 const SEED: u64 = 1;
 
@@ -57,23 +58,23 @@ fn options() -> Result<Options, String> {
     Ok(options)
 }
 
-/// One round: a list of calls, a record of each kind, in one of eight a sweep of damages, a list of demand 3.
+/// One round: a list of calls, a record of each kind, in every eighth round a sweep of damages, a list of demand 3.
 fn round(check: &mut Check, options: &Options, seed: u64) {
     check.seed = seed;
     if options.wants(1) {
-        check.part = "part 1, lists of calls".into();
+        check.part = "part 1, S8.7 lists of calls".into();
         lists::list(check, &mut Random::new(seed));
     }
     if options.wants(2) {
-        check.part = "part 2, records made directly".into();
+        check.part = "part 2, S2.27 records made directly".into();
         records::records(check, &mut Random::new(!seed));
     }
     if options.wants(3) && seed.is_multiple_of(8) {
-        check.part = "part 3, damaged records".into();
+        check.part = "part 3, S3.7 damaged records".into();
         damage::sweep(check, &mut Random::new(seed.rotate_left(32)));
     }
     if options.wants(6) {
-        check.part = "part 6, the plain machine of demand 3".into();
+        check.part = "part 6, S2.46 the plain machine of demand 3".into();
         demand::demand(check, &mut Random::new(seed ^ 0x6666));
     }
 }
@@ -99,19 +100,19 @@ fn main() {
     let start = Instant::now();
     let mut check = Check { seed: options.seed, observing: true, ..Check::default() };
     if options.wants(4) {
-        check.part = "part 4, clauses of row 5".into();
+        check.part = "part 4, S3.7 clauses of row 5".into();
         let clauses = clauses::clauses(&mut check);
-        println!("row 5: {clauses} clauses, each with an accepted record and a refused neighbour");
+        println!("S3.7 row 5: {clauses} clauses, each with an accepted record and a refused neighbour");
     }
     if options.wants(5) {
-        check.part = "part 5, edges of the refusal table".into();
+        check.part = "part 5, S3.1 edges of the refusal table".into();
         let edges = table::table(&mut check);
-        println!("refusal table: {edges} edges and orders of rows");
+        println!("S3.1 refusal table: {edges} edges and orders of rows");
     }
     if options.wants(7) {
-        check.part = "part 7, arithmetic at the edges".into();
+        check.part = "part 7, S1.5 arithmetic at the edges".into();
         let pairs = edges::edges(&mut check);
-        println!("arithmetic: {pairs} pairs of edge words");
+        println!("S1.5 arithmetic: {pairs} pairs of edge words");
     }
     let done = rounds(&mut check, &options);
     println!("{done} rounds from seed {}", options.seed);

@@ -1,6 +1,6 @@
 // The plain machine of demand 3: what a programmer sees, a flat memory, a history, clocks left and counts.
 // Paper: "The plain machine of demand 3", "Judged from history", the clock table, the instruction set.
-// It has no cache, no phases and no steps; written for shortness, with wide integers, and shared with neither side.
+// It has no cache, no phases and no steps; it is short, uses wide integers, and shares no code with either side.
 use crate::tally::holds;
 
 /// An access with the cache on, or an emptying.
@@ -36,7 +36,7 @@ enum Place {
 }
 
 impl Plain {
-    /// After an accepted reset.
+    /// The state after an accepted reset.
     pub fn new(store: &[u32]) -> Plain {
         Plain {
             pc: 0,
@@ -56,15 +56,15 @@ impl Plain {
         }
     }
 
-    pub fn clock(&mut self, program: &[u32], line: u8, input: u32) -> Moved {
+    pub fn clock(&mut self, program: &[u32], line_byte: u8, input: u32) -> Moved {
         self.clocks += 1;
-        if line & 4 != 0 {
+        if line_byte & 4 != 0 {
             self.held += 1;
             return (0, 0);
         }
         let word = program.get(self.pc).copied().unwrap_or(0x3BC00);
         if self.left == 0 {
-            let enabled = u32::from(line) & self.status & 3;
+            let enabled = u32::from(line_byte) & self.status & 3;
             if self.status & 4 == 0 && enabled != 0 {
                 self.interrupt(enabled);
                 return (0, 0);
@@ -88,7 +88,7 @@ impl Plain {
         self.pc = if enabled & 1 == 1 { 2 } else { 3 };
     }
 
-    /// Register number of the bank in use.
+    /// The index of a register of the current bank.
     fn at(&self, number: u32) -> usize {
         (number % 8 + if self.status & 4 != 0 { 8 } else { 0 }) as usize
     }
@@ -109,7 +109,7 @@ impl Plain {
         }
     }
 
-    /// The block a line holds and whether it is dirty, from the history.
+    /// The block that a cache line holds and whether it is dirty, from the history.
     fn held_by(&self, line: usize) -> Option<(usize, bool)> {
         let since = self.history.iter().rev().take_while(|event| matches!(event, Event::Access { .. }));
         let mut of_line = since.filter_map(|event| match event {
@@ -130,7 +130,7 @@ impl Plain {
         (0..16).filter(|&line| self.held_by(line).is_some_and(|(_, dirty)| dirty)).count() as u64
     }
 
-    /// The cache is on and the word turns it off.
+    /// Whether the cache is on and the word turns it off.
     fn empties(&self, word: u32) -> bool {
         word >> 14 == 11 && word & 0x400 == 0 && self.status & 8 != 0 && word & 8 == 0
     }
@@ -161,7 +161,7 @@ impl Plain {
         }
     }
 
-    /// A refill or write-back counts when its ten is over.
+    /// Counts a refill or write-back when its burst (the paper's ten) is over.
     fn count_tens(&mut self, word: u32) {
         let spent = self.charge - self.left;
         if self.empties(word) {

@@ -1,4 +1,4 @@
-// Random programs, line bytes and input words that meet the rare paths often.
+// Random programs, line bytes and input words that often reach rare paths.
 // Paper: "What a programmer sees" for the formats; "Clock by clock" for what makes a clock rare.
 // Bias: few cache lines with many blocks, devices, short loops, interrupts with returns, cache on and off.
 use crate::random::Random;
@@ -15,7 +15,7 @@ pub fn status(bits: u32) -> u32 {
     11 << 14 | bits
 }
 
-/// `kind` is bits 9-8: 0 jump, 2 and link, 1 and 3 return from interrupt.
+/// `kind` is bits 9-8: 0 jump, 2 jump and link, 1 and 3 return from interrupt.
 pub fn jump(kind: u32, d: u32, s: u32) -> u32 {
     11 << 14 | d << 11 | 1 << 10 | kind << 8 | s
 }
@@ -49,7 +49,7 @@ pub fn size(random: &mut Random) -> usize {
     }
 }
 
-/// An offset on one of few lines.
+/// An offset in one of few cache lines.
 fn offset(random: &mut Random) -> u32 {
     let line = random.pick(&[0, 0, 0, 0, 1, 5, 15]);
     let other = random.pick(&[0, 0, 16]);
@@ -76,7 +76,7 @@ fn access(random: &mut Random) -> u32 {
     make(d, s, if random.percent(80) { offset(random) } else { random.bits(8) })
 }
 
-/// A register set to something useful as a base: a block of a few lines, the devices, an edge.
+/// Sets a register to a value useful as a base: a block of a few cache lines, the devices, an edge.
 fn base(random: &mut Random, d: u32) -> u32 {
     match random.below(12) {
         0 | 1 => literal(1, d, 0x3F),
@@ -128,7 +128,7 @@ fn status_word(random: &mut Random) -> u32 {
     status(cache | mode | random.bits(2)) | random.pick(&[0, 0, 0, 0x10, 0x200, 0x3800])
 }
 
-/// Calls and jumps, mostly by R7, so that the program is seldom left.
+/// Calls and jumps, mostly by R7, so that execution rarely leaves the program.
 fn far(random: &mut Random, length: usize) -> u32 {
     let (d, s) = (random.bits(3), random.bits(3));
     match random.below(12) {
@@ -158,7 +158,7 @@ fn word(random: &mut Random, length: usize) -> u32 {
     }
 }
 
-/// A program of 1 to 4,096 words, mostly short, with interrupt handlers at 2 and 3 and a way back at its end.
+/// A program of 1 to 4,096 words, mostly short, with interrupt handlers at 2 and 3 and a branch back at its end.
 pub fn program(random: &mut Random) -> Vec<u32> {
     let length = match random.below(50) {
         0 => 4096,
@@ -181,8 +181,8 @@ pub fn program(random: &mut Random) -> Vec<u32> {
     words
 }
 
-/// Line bytes: none, stalls single or in bursts, interrupts single or in bursts, all mixed.
-pub fn lines(random: &mut Random, count: usize) -> Vec<u8> {
+/// Line bytes: all 0; single stalls or series of them; single interrupts or series; all mixed.
+pub fn line_bytes(random: &mut Random, count: usize) -> Vec<u8> {
     let kind = random.below(6);
     let mut burst = (0u64, 0u8);
     (0..count)

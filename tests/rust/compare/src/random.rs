@@ -1,6 +1,6 @@
 // A small generator of random numbers (splitmix64), the same for the same seed.
-// Paper: none of it.
-// Words are often near an edge, since that is where arithmetic and addresses go wrong.
+// Paper: nothing.
+// Words are often near an edge, where arithmetic and addresses are likely to be wrong.
 
 pub struct Random(u64);
 
@@ -41,7 +41,7 @@ impl Random {
         self.next() % limit
     }
 
-    /// `low` to `high`, both met.
+    /// `low` to `high`, both included.
     pub fn between(&mut self, low: u64, high: u64) -> u64 {
         low + self.below(high - low + 1)
     }

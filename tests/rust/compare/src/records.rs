@@ -1,6 +1,6 @@
-// Part 2: random records that row 5 accepts, of every phase and every row of the phase rule, made directly.
+// Part 2: random records that row 5 accepts, of every phase and every row of the phase rule, built directly.
 // Paper: "The record holds phase and count", the closed formulas, row 5.
-// Made from the paper's words and not by running; what the paper leaves open (line words, counts) is random.
+// They are built from the paper's words and not by running; what the paper leaves open (words of cache lines, counts) is random.
 use crate::call::{Call, Lent};
 use crate::check::Check;
 use crate::library::Machine;
@@ -52,13 +52,13 @@ pub fn records(check: &mut Check, random: &mut Random) {
         let mut lent = accepted(random, kind);
         for step in 0..random.between(1, 4) {
             let call = if random.percent(50) {
-                Call::Clock { line: programs::lines(random, 1)[0], input: random.word() }
+                Call::Clock { line_byte: programs::line_bytes(random, 1)[0], input: random.word() }
             } else {
                 let count = random.below(70) as usize;
                 run_of(random, count)
             };
             let outcome = if step == 0 {
-                check.expect(&lent, &call, 0, &format!("a record made for {kind:?}"))
+                check.expect(&lent, &call, 0, &format!("S2.27 a record made for {kind:?}"))
             } else {
                 check.call(&lent, &call)
             };
@@ -87,7 +87,7 @@ pub fn accepted(random: &mut Random, kind: Kind) -> Lent {
     Lent { machine, program, store: random.words(size) }
 }
 
-/// Registers, flags and counts at random, the rest zero.
+/// Random registers, flags and counts, the rest zero.
 fn scalars(random: &mut Random, size: usize) -> Machine {
     let mut m = zeros();
     m.size = size as u32;
@@ -110,7 +110,7 @@ fn scalars(random: &mut Random, size: usize) -> Machine {
     m
 }
 
-/// Blocks of the store that belong to a line.
+/// The blocks of the store that belong to a cache line.
 fn blocks(size: usize, line: usize) -> u64 {
     ((size / 8).saturating_sub(line) as u64).div_ceil(16)
 }
@@ -131,7 +131,7 @@ fn make_empty(m: &mut Machine, line: usize) {
     (m.full[line], m.dirty[line], m.block[line]) = (0, 0, 0);
 }
 
-/// An LD or ST whose address is `address`: the offset at random and the base register to suit.
+/// An LD or ST of this address: a random offset and a base register to match.
 fn access(random: &mut Random, m: &mut Machine, load: bool, address: u32) -> u32 {
     let d = random.bits(3);
     let make = if load { programs::load } else { programs::store };
@@ -145,13 +145,13 @@ fn access(random: &mut Random, m: &mut Machine, load: bool, address: u32) -> u32
     make(d, s, offset)
 }
 
-/// A 16-bit address that the store's length takes to `word`, below the devices.
+/// A 16-bit address below the devices that is `word` modulo the store's length.
 fn alias(random: &mut Random, word: usize, size: usize) -> u32 {
     let copies = (0xFFC0 - word as u64).div_ceil(size as u64);
     (word as u64 + random.below(copies) * size as u64) as u32
 }
 
-/// Puts the record into the phase and gives the word at PC.
+/// Brings the record into the phase and returns the word at PC.
 fn put(random: &mut Random, m: &mut Machine, size: usize, kind: Kind) -> u32 {
     let target = random.below(size as u64) as usize;
     let line = target / 8 % 16;
@@ -260,7 +260,7 @@ fn divide(random: &mut Random, m: &mut Machine) -> u32 {
     word
 }
 
-/// The multiplier's register after k steps, in wide integers as the paper has it.
+/// The multiplier's register after k steps, in wide integers as in the paper.
 pub fn product(b: u32, a: u32, k: u32) -> u64 {
     let (signed, unsigned, two) = (i128::from(b as i32), i128::from(a), 2i128);
     let value = match k {

@@ -1,19 +1,19 @@
 // The two sides of the comparison behind one trait; here the simulator's side.
 // Paper: the calls of "Clock by clock" and "Where calls are turned down".
-// A refused clock or run answers the record as given and zeros; a refused reset a record of zeros.
+// A refused clock or run returns the record as given and zeros; a refused reset a record of zeros.
 use crate::library::{ClockValueAnswer, LookAnswer, Machine, ResetAnswer, RunAnswer, WatchAnswer};
 use simulator::{Cache, Flags, Line, Record, State};
 
 pub trait Side {
     fn reset(&self, store: &[u32]) -> ResetAnswer;
-    fn clock(&self, m: &Machine, program: &[u32], store: &mut [u32], line: u8, input: u32) -> ClockValueAnswer;
+    fn clock(&self, m: &Machine, program: &[u32], store: &mut [u32], line_byte: u8, input: u32) -> ClockValueAnswer;
     #[allow(clippy::too_many_arguments)]
     fn run(
         &self,
         m: &Machine,
         program: &[u32],
         store: &mut [u32],
-        lines: &[u8],
+        line_bytes: &[u8],
         inputs: &[u32],
         bytes: &mut [u8],
         words: &mut [u32],
@@ -87,9 +87,9 @@ impl Side for Simulator {
         }
     }
 
-    fn clock(&self, m: &Machine, program: &[u32], store: &mut [u32], line: u8, input: u32) -> ClockValueAnswer {
+    fn clock(&self, m: &Machine, program: &[u32], store: &mut [u32], line_byte: u8, input: u32) -> ClockValueAnswer {
         let mut record = to_record(m);
-        let answer = simulator::clock(&mut record, program, store, line, input);
+        let answer = simulator::clock(&mut record, program, store, line_byte, input);
         let number = answer.err().unwrap_or(0);
         let answer = answer.unwrap_or_default();
         let machine = from_record(&record);
@@ -101,13 +101,13 @@ impl Side for Simulator {
         m: &Machine,
         program: &[u32],
         store: &mut [u32],
-        lines: &[u8],
+        line_bytes: &[u8],
         inputs: &[u32],
         bytes: &mut [u8],
         words: &mut [u32],
     ) -> RunAnswer {
         let mut record = to_record(m);
-        let answer = simulator::run(&mut record, program, store, lines, inputs, bytes, words);
+        let answer = simulator::run(&mut record, program, store, line_bytes, inputs, bytes, words);
         let number = answer.err().unwrap_or(0);
         let answer = answer.unwrap_or_default();
         RunAnswer { machine: from_record(&record), number, used: answer.used, finished: answer.finished }

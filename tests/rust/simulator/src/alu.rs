@@ -1,20 +1,20 @@
 // Results and flags of the one-clock arithmetic.
 // Paper: "What a programmer sees", operations 0-7 and 10, and the paragraph on N, Z, C, V.
-// Only ADD, SUB and ROR touch C; only ADD and SUB touch V.
+// Only ADD, SUB and ROR change C; only ADD and SUB change V.
 use crate::record::Flags;
 
-/// N and Z, kept as the word they come from: Z is that its low half is zero, N its bit 31 or bit 63.
+/// N and Z, kept as the word they come from: Z if its low half is zero, N by its bit 31 or bit 63.
 #[derive(Clone, Copy)]
 pub struct Nz(u64);
 
 impl Nz {
-    /// Of the result of an instruction.
+    /// From the result of an instruction.
     #[inline(always)]
     pub fn of(result: u32) -> Nz {
         Nz(u64::from(result))
     }
 
-    /// Of two flags; bit 63 is for N beside Z, which no result gives.
+    /// From two flags; bit 63 is for N together with Z, which no result gives.
     #[inline(always)]
     pub fn new(n: u64, z: u64) -> Nz {
         Nz(n << 63 | (z ^ 1))

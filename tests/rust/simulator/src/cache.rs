@@ -12,7 +12,7 @@ pub struct Line {
 #[derive(Clone, PartialEq, Eq, Debug)]
 pub struct Cache {
     pub lines: [Line; 16],
-    /// Eight words to a line.
+    /// Eight words per line.
     pub words: [u32; 128],
 }
 
@@ -71,7 +71,7 @@ impl Cache {
         self.lines = [Line::default(); 16];
     }
 
-    /// One clock of a write-back at `count` clocks done: two waits, then word `count - 2` of the line.
+    /// One clock of a write-back with `count` clocks done: two waits, then word `count - 2` of the line.
     #[inline(always)]
     pub fn write_back_clock(&self, store: &mut [u32], line: usize, count: u64) {
         if count >= 2 {
@@ -80,7 +80,7 @@ impl Cache {
         }
     }
 
-    /// One clock of a refill for `address` at `count` clocks done.
+    /// One clock of a refill for `address` with `count` clocks done.
     #[inline(always)]
     pub fn refill_clock(&mut self, store: &[u32], address: usize, count: u64) {
         if count >= 2 {

@@ -1,6 +1,6 @@
 // The calls on a record: reset, one clock, a run, a look, a copy.
 // Paper: "Clock by clock" from "A run carries out", and "Where calls are turned down".
-// An error is the refusal's number; record, store and buffers are then untouched.
+// An error is the refusal number; record, store and buffers are then unchanged.
 use crate::cache::Cache;
 use crate::clock::Machine;
 use crate::events::Events;
@@ -8,7 +8,7 @@ use crate::feed::Feed;
 use crate::record::{Record, State};
 use crate::refuse;
 
-/// What one clock answers: device byte, word moved, and whether it finished an instruction (1 or 0).
+/// What one clock returns: device byte, word moved, and whether it finished an instruction (1 or 0).
 #[derive(Clone, Copy, PartialEq, Eq, Debug, Default)]
 pub struct Answer {
     pub byte: u8,
@@ -29,12 +29,18 @@ pub fn reset(store: &[u32]) -> Result<Record, u32> {
     Ok(Record { state, registers: [0; 16], cache: Cache::default() })
 }
 
-pub fn clock(record: &mut Record, program: &[u32], store: &mut [u32], line: u8, input: u32) -> Result<Answer, u32> {
+pub fn clock(
+    record: &mut Record,
+    program: &[u32],
+    store: &mut [u32],
+    line_byte: u8,
+    input: u32,
+) -> Result<Answer, u32> {
     refuse::common(record, program, store.len())?;
-    refuse::line(line)?;
+    refuse::line_byte(line_byte)?;
     refuse::clocks(record, 1)?;
     let (mut byte, mut moved) = ([0], [0]);
-    let ran = trace(record, program, store, Feed::new(&[line], &[input], &mut byte, &mut moved), &mut ());
+    let ran = trace(record, program, store, Feed::new(&[line_byte], &[input], &mut byte, &mut moved), &mut ());
     Ok(Answer { byte: byte[0], word: moved[0], finished: ran.finished })
 }
 
@@ -42,21 +48,21 @@ pub fn run(
     record: &mut Record,
     program: &[u32],
     store: &mut [u32],
-    lines: &[u8],
+    line_bytes: &[u8],
     inputs: &[u32],
     bytes: &mut [u8],
     words: &mut [u32],
 ) -> Result<Ran, u32> {
     refuse::common(record, program, store.len())?;
-    refuse::lines(lines, inputs.len())?;
-    refuse::buffer(bytes.len(), lines.len())?;
-    refuse::buffer(words.len(), lines.len())?;
-    refuse::clocks(record, lines.len())?;
-    Ok(trace(record, program, store, Feed::new(lines, inputs, bytes, words), &mut ()))
+    refuse::line_bytes(line_bytes, inputs.len())?;
+    refuse::buffer(bytes.len(), line_bytes.len())?;
+    refuse::buffer(words.len(), line_bytes.len())?;
+    refuse::clocks(record, line_bytes.len())?;
+    Ok(trace(record, program, store, Feed::new(line_bytes, inputs, bytes, words), &mut ()))
 }
 
-/// Carries out the clocks of the feed without the checks of a call, and tells of each instruction finished and each interrupt.
-/// For a record of `reset` that only accepted calls and traces with the same program and store have moved.
+/// Runs the clocks of the feed without the checks of a call, and reports each instruction finished and each interrupt.
+/// For a record of `reset` that only accepted calls and traces with the same program and store have changed.
 pub fn trace<E: Events>(record: &mut Record, program: &[u32], store: &mut [u32], feed: Feed, events: &mut E) -> Ran {
     let Record { state, registers, cache } = record;
     let mut machine = Machine { state, registers, cache, program, store, feed, finished: 0, events };
@@ -64,7 +70,7 @@ pub fn trace<E: Events>(record: &mut Record, program: &[u32], store: &mut [u32],
     Ran { used, finished: machine.finished }
 }
 
-/// One word of data memory, a full line's word before the store's.
+/// One word of data memory, through the cache.
 pub fn look(record: &Record, program: &[u32], store: &[u32], address: u32) -> Result<u32, u32> {
     refuse::common(record, program, store.len())?;
     refuse::address(address)?;

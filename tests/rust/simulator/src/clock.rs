@@ -1,6 +1,6 @@
 // The clock engine: each instruction takes its clocks from the feed, one by one, until the feed is used up.
 // Paper: "Clock by clock": held clocks, interrupts, the phases between two calls.
-// The record has been accepted before. Short instructions are in short.rs, longer ones in flight.rs.
+// The record has been checked before. Short instructions are in short.rs, longer ones in flight.rs.
 use crate::cache::Cache;
 use crate::events::Events;
 use crate::feed::Feed;
@@ -8,7 +8,7 @@ use crate::record::{State, ARITHMETIC, LAST, READY, REFILL, WRITE_BACK};
 use crate::short::Left;
 use crate::word;
 
-/// A machine in motion: the record taken apart, and what is lent with it.
+/// A running machine: the parts of the record, and what is lent with it.
 pub struct Machine<'a, E> {
     pub state: &'a mut State,
     pub registers: &'a mut [u32; 16],
@@ -18,12 +18,12 @@ pub struct Machine<'a, E> {
     pub feed: Feed<'a>,
     /// Instructions finished.
     pub finished: u64,
-    /// Who is told of them.
+    /// The receiver of their events.
     pub events: &'a mut E,
 }
 
 impl<E: Events> Machine<'_, E> {
-    /// Uses up the feed and gives the number of clocks used.
+    /// Uses up the feed and returns the number of clocks used.
     pub fn run(&mut self) -> u64 {
         let clocks = self.feed.clocks.len() as u64;
         self.resume();
@@ -35,7 +35,7 @@ impl<E: Events> Machine<'_, E> {
         clocks
     }
 
-    /// Goes on with a longer instruction in flight, if there is one; a last clock due is left to `short`.
+    /// Continues a longer instruction in flight, if there is one; a last clock that is due is left to `short`.
     fn resume(&mut self) {
         let (phase, count) = (self.state.phase, self.state.count);
         if phase == READY || phase == LAST {

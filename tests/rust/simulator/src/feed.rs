@@ -20,9 +20,9 @@ pub struct Feed<'a> {
 /// The line byte of the next clock that is not held; held clocks before it are used up one by one.
 #[inline(always)]
 pub fn unheld(clocks: &mut Iter<u8>, held: &mut u64) -> Option<u8> {
-    for &line in clocks {
-        if line & STALL == 0 {
-            return Some(line);
+    for &line_byte in clocks {
+        if line_byte & STALL == 0 {
+            return Some(line_byte);
         }
         *held += 1;
     }
@@ -30,14 +30,14 @@ pub fn unheld(clocks: &mut Iter<u8>, held: &mut u64) -> Option<u8> {
 }
 
 impl<'a> Feed<'a> {
-    /// All four have one length.
-    pub fn new(lines: &'a [u8], inputs: &'a [u32], bytes: &'a mut [u8], words: &'a mut [u32]) -> Feed<'a> {
+    /// All four have the same length.
+    pub fn new(line_bytes: &'a [u8], inputs: &'a [u32], bytes: &'a mut [u8], words: &'a mut [u32]) -> Feed<'a> {
         bytes.fill(0);
         words.fill(0);
-        Feed { clocks: lines.iter(), held: 0, inputs, bytes, words }
+        Feed { clocks: line_bytes.iter(), held: 0, inputs, bytes, words }
     }
 
-    /// Spends the clocks of a phase whose counts before them are `counts`, telling `each` the count.
+    /// Uses the clocks of a phase whose counts before them are `counts`, and calls `each` with the count.
     /// False if the feed is used up before; phase and count are then left in the record.
     #[inline(always)]
     pub fn spend(&mut self, state: &mut State, phase: u64, counts: Range<u64>, mut each: impl FnMut(u64)) -> bool {
@@ -55,7 +55,7 @@ impl<'a> Feed<'a> {
         whole
     }
 
-    /// A read of a device in the clock last used: answers byte and word, and gives the word read.
+    /// A device read in the clock last used: writes the answer byte and word, and returns the word read.
     /// `left` is the number of clocks to come.
     #[inline(always)]
     pub fn read(&mut self, device: u8, left: usize) -> u32 {
@@ -66,7 +66,7 @@ impl<'a> Feed<'a> {
         word
     }
 
-    /// A write to a device in the clock last used.
+    /// A device write in the clock last used.
     #[inline(always)]
     pub fn write(&mut self, device: u8, word: u32, left: usize) {
         let at = self.inputs.len() - left - 1;

@@ -1,6 +1,6 @@
 // Instructions of more than two clocks, and instructions found in flight in a lent record.
-// Paper: "Clock by clock": the clock table, the tens of the cache, the phases and their counts.
-// Each function spends clocks of the feed one by one; when the feed is used up, phase and count are in the record.
+// Paper: "Clock by clock": the clock table, the bursts of the cache, the phases and their counts.
+// Each function uses clocks of the feed one by one; when the feed is used up, phase and count are in the record.
 use crate::cache::{line_of, Line};
 use crate::clock::Machine;
 use crate::events::Events;
@@ -9,7 +9,7 @@ use crate::serial;
 use crate::word;
 
 impl<E: Events> Machine<'_, E> {
-    /// After the first clock of a longer instruction, found by the loop in short.rs.
+    /// Continues a longer instruction after its first clock, which the loop in short.rs ran.
     pub fn begin(&mut self, word: u32) {
         match word::operation(word) {
             word::MUL => {
@@ -56,7 +56,7 @@ impl<E: Events> Machine<'_, E> {
         self.state.quotient = pair & 0xFFFF_FFFF;
     }
 
-    /// Result of 8 and 9 to R.d and H, N and Z.
+    /// Writes the result of 8 and 9 to R.d and H, N and Z.
     fn result(&mut self, word: u32, value: u32, h: u32) {
         self.state.h = h;
         self.state.flags.n = u64::from(value >> 31);
@@ -65,7 +65,7 @@ impl<E: Events> Machine<'_, E> {
         self.advance()
     }
 
-    /// Write-backs of all dirty lines, `done` clocks of the lowest one's ten being over.
+    /// Writes back all dirty lines, with `done` clocks of the lowest one's burst over.
     pub fn empty(&mut self, mut done: u64) {
         while let Some(line) = self.cache.lowest_dirty() {
             if !self.ten_back(line, done) {
@@ -77,7 +77,7 @@ impl<E: Events> Machine<'_, E> {
         self.due()
     }
 
-    /// After the looking clock of a miss.
+    /// Continues a miss after its tag-check clock.
     fn miss(&mut self, word: u32) {
         let line = &mut self.cache.lines[line_of(self.address(word))];
         if line.dirty != 0 {
@@ -97,7 +97,7 @@ impl<E: Events> Machine<'_, E> {
         }
     }
 
-    /// Ten clocks writing a line back; false if the feed is used up before.
+    /// The ten clocks of a write-back; false if the feed is used up before.
     fn ten_back(&mut self, line: usize, done: u64) -> bool {
         let (cache, store) = (&*self.cache, &mut *self.store);
         let word = |count| cache.write_back_clock(store, line, count);
@@ -106,7 +106,7 @@ impl<E: Events> Machine<'_, E> {
         whole
     }
 
-    /// Ten clocks refilling, then the last clock.
+    /// The ten clocks of a refill, then the last clock.
     pub fn refill(&mut self, word: u32, done: u64) {
         let address = self.address(word);
         let (cache, store) = (&mut *self.cache, &*self.store);
@@ -134,7 +134,7 @@ impl<E: Events> Machine<'_, E> {
         self.advance()
     }
 
-    /// The last clock is due; the loop in short.rs takes it.
+    /// Marks the last clock as due; the loop in short.rs runs it.
     fn due(&mut self) {
         (self.state.phase, self.state.count) = (LAST, 0);
     }

@@ -1,6 +1,6 @@
 // Simulator of the TRM with its cache, one clock at a time, written from the paper alone.
 // Paper: all of it but images and the listing program.
-// Every call takes any input and answers the refusal number of the paper's table as its error.
+// Every call takes any input and returns the refusal number of the paper's table as its error.
 #![forbid(unsafe_code)]
 
 mod alu;

@@ -1,6 +1,6 @@
-// The record a caller holds between calls: scalars, two register banks, the cache.
+// The record that a caller holds between calls: scalars, two register banks, the cache.
 // Paper: "What a programmer sees", "Clock by clock" (phase, count, multiplier, divider, counts).
-// Fields are wider than the paper's widths, so that any bytes a caller has can be carried and judged (row 5).
+// Fields are wider than in the paper, so that any bytes of a caller fit and are checked (row 5).
 use crate::cache::Cache;
 
 // Status bits.
@@ -62,7 +62,7 @@ impl Flags {
 }
 
 impl State {
-    /// Index of register `number` (0-7) of the bank in use.
+    /// Index of register `number` (0-7) of the current bank.
     #[inline(always)]
     pub(crate) fn register(&self, number: u32) -> usize {
         (((self.status as u32 & MODE) << 1) | (number & 7)) as usize & 15

@@ -1,6 +1,6 @@
-// The rows of the refusal table, each as one check that answers its number.
+// The rows of the refusal table, each as one check that returns its number.
 // Paper: "Where calls are turned down", rows 3 to 9.
-// The calls go down the rows in order and skip those about things they do not take.
+// The calls check the rows in order and skip those about things they do not take.
 use crate::record::Record;
 use crate::rule;
 
@@ -36,7 +36,7 @@ pub fn record(record: &Record, program: &[u32], size: usize) -> Check {
     unless(rule::accepted(record, program, size), 5)
 }
 
-/// Rows 3 to 5, which every call with a record begins with.
+/// Rows 3 to 5, which every call with a record checks first.
 pub fn common(record: &Record, words: &[u32], size: usize) -> Check {
     program(words)?;
     store(record, size)?;
@@ -44,14 +44,14 @@ pub fn common(record: &Record, words: &[u32], size: usize) -> Check {
 }
 
 /// Row 6 of a run.
-pub fn lines(lines: &[u8], inputs: usize) -> Check {
-    let length = lines.len() == inputs && lines.len() <= 65536;
-    unless(length && lines.iter().fold(0, |all, line| all | line) <= 7, 6)
+pub fn line_bytes(line_bytes: &[u8], inputs: usize) -> Check {
+    let length = line_bytes.len() == inputs && line_bytes.len() <= 65536;
+    unless(length && line_bytes.iter().fold(0, |all, line_byte| all | line_byte) <= 7, 6)
 }
 
 /// Row 6 of the clock call.
-pub fn line(line: u8) -> Check {
-    unless(line <= 7, 6)
+pub fn line_byte(line_byte: u8) -> Check {
+    unless(line_byte <= 7, 6)
 }
 
 /// Row 7.

@@ -1,6 +1,6 @@
 // Row 5 of the table: which records are accepted, by the word at PC.
 // Paper: "Where calls are turned down", row 5; "Clock by clock", closed formulas and the phase rule.
-// Judged after rows 3 and 4, so the program has words and the store's length is the record's.
+// Checked after rows 3 and 4, so the program has words and the store's length is the record's.
 use crate::cache::{line_of, Line};
 use crate::record::{Record, State, ARITHMETIC, LAST, READY, REFILL, UNCACHED, WRITE_BACK};
 use crate::word::{self, Place};

@@ -1,6 +1,6 @@
 // The step-by-step multiplier and divider, and their results.
 // Paper: "Clock by clock", "After k multiplier steps"; operations 8 and 9.
-// A step is what one clock of hardware does; the closed formulas are in rule.rs, and the tests hold the two together.
+// A step is what one clock of hardware does; the closed formulas are in rule.rs, and the tests compare the two.
 
 /// The multiplier's register before its first step.
 #[inline(always)]
@@ -8,7 +8,7 @@ pub fn multiply_start(a: u32) -> u64 {
     u64::from(a)
 }
 
-/// Step `k` (1-32): the low bit chooses whether B enters at the top; the sign bit of A, last, takes B away.
+/// Step `k` (1-32): the low bit decides whether B is added at the top; the last bit, the sign of A, subtracts B.
 #[inline(always)]
 pub fn multiply_step(product: u64, b: u32, k: u64) -> u64 {
     let partial = if product & 1 == 1 { i64::from(b as i32) << 31 } else { 0 };
@@ -33,7 +33,7 @@ pub fn divide_start(b: u32, a: u32) -> u64 {
     }
 }
 
-/// One bit of the dividend's magnitude moves into the remainder, one quotient bit comes in below.
+/// One bit of the dividend's magnitude moves into the remainder, and one quotient bit is shifted in below.
 #[inline(always)]
 pub fn divide_step(pair: u64, a: u32) -> u64 {
     if a as i32 <= 0 {

@@ -1,6 +1,6 @@
 // Instructions of one and two clocks, and interrupts, from ready to ready; and every last clock that is due.
 // Paper: "What a programmer sees"; "Clock by clock", the interrupt and the short rows of the clock table.
-// One loop that keeps its scalars in machine registers; longer instructions are handed on after their first clock.
+// One loop that keeps its scalars in machine registers; longer instructions are passed on after their first clock.
 use crate::alu::{self, Nz};
 use crate::cache::Cache;
 use crate::clock::Machine;
@@ -14,7 +14,7 @@ use std::slice::Iter;
 pub enum Left {
     /// The feed is used up.
     Over,
-    /// The first clock of a longer instruction has been spent.
+    /// The first clock of a longer instruction has been used.
     Long(u32),
 }
 
@@ -22,9 +22,9 @@ pub enum Left {
 struct Core<'r, 'c, E> {
     pc: usize,
     nz: Nz,
-    /// Line bits that make a clock more than a step of the program: stall, and interrupts if they can be taken.
+    /// Bits of the line byte that need attention: stall, and interrupts if they can be taken.
     watched: u8,
-    /// First register of the bank in use.
+    /// First register of the current bank.
     bank: u32,
     finished: u64,
     clocks: Iter<'c, u8>,
@@ -54,12 +54,12 @@ impl<E: Events> Machine<'_, E> {
             core.last(word::fetch(program, core.pc), state, cache, feed, size);
         }
         let left = loop {
-            let Some(&line) = core.clocks.next() else { break Left::Over };
-            if line & core.watched != 0 {
-                if line & STALL != 0 {
+            let Some(&line_byte) = core.clocks.next() else { break Left::Over };
+            if line_byte & core.watched != 0 {
+                if line_byte & STALL != 0 {
                     feed.held += 1;
                 } else {
-                    core.interrupt(state, line);
+                    core.interrupt(state, line_byte);
                 }
                 continue;
             }
@@ -129,7 +129,7 @@ impl<E: Events> Machine<'_, E> {
     }
 }
 
-/// The line bits watched under a status.
+/// The bits of the line byte watched under a status.
 #[inline(always)]
 fn watched(status: u32) -> u8 {
     let enabled = if status & MODE == 0 { status & 3 } else { 0 };
@@ -141,7 +141,7 @@ fn bank(status: u32) -> u32 {
     (status & MODE) << 1
 }
 
-/// What an interrupt puts in bank 1's R7; a function of its own so that no other clock prepares it.
+/// What an interrupt stores in bank 1's R7; a separate function so that no other clock prepares it.
 #[cold]
 #[inline(never)]
 fn saved(nz: Nz, c: u64, v: u64, pc: usize) -> u32 {
@@ -176,7 +176,7 @@ impl<E: Events> Core<'_, '_, E> {
         word::place(word, self.get(word::s(word)), size)
     }
 
-    /// The instruction ends and PC goes on by one.
+    /// The instruction ends and PC is incremented.
     #[inline(always)]
     fn advance(&mut self) {
         self.go_to(word::next(self.pc))
@@ -189,7 +189,7 @@ impl<E: Events> Core<'_, '_, E> {
         self.finished += 1;
     }
 
-    /// Result of 0-10 to R.d, N and Z.
+    /// Writes the result of 0-10 to R.d, N and Z.
     #[inline(always)]
     fn result(&mut self, word: u32, value: u32) {
         self.nz = Nz::of(value);
@@ -197,7 +197,7 @@ impl<E: Events> Core<'_, '_, E> {
         self.advance()
     }
 
-    /// Takes the last clock of an instruction from the feed; if there is none the record says that it is due.
+    /// Takes the last clock of an instruction from the feed; if there is none, marks it as due in the record.
     #[inline(always)]
     fn used_up(&mut self, held: &mut u64, state: &mut State) -> bool {
         let due = feed::unheld(&mut self.clocks, held).is_none();
@@ -259,9 +259,9 @@ impl<E: Events> Core<'_, '_, E> {
     }
 
     #[inline(always)]
-    fn interrupt(&mut self, state: &mut State, line: u8) {
+    fn interrupt(&mut self, state: &mut State, line_byte: u8) {
         self.registers[15] = saved(self.nz, state.flags.c, state.flags.v, self.pc);
-        let first = u32::from(line) & state.status as u32 & 1 != 0;
+        let first = u32::from(line_byte) & state.status as u32 & 1 != 0;
         self.events.interrupted(self.pc, if first { 0 } else { 1 }, self.clocks.len());
         self.pc = if first { 2 } else { 3 };
         self.change_status(state, state.status as u32 | MODE);

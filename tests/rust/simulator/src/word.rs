@@ -1,12 +1,12 @@
 // Fields of a program word: operation, registers, literals, offsets, conditions.
 // Paper: "What a programmer sees", from "Operation = bits 17-14" to operation 15.
-// Pure functions of the word; program words beyond the lent ones are NEVER.
+// Pure functions of the word; program words past the lent ones are NEVER.
 use crate::record::CACHE_ON;
 
-/// Branch never, the word beyond the lent program.
+/// Branch never, the word past the lent program.
 pub const NEVER: u32 = 0x3BC00;
 
-// Operations with their own names here; 0-7 and 10 are the one-clock arithmetic.
+// Operations named here; 0-7 and 10 are the one-clock arithmetic.
 pub const MUL: u32 = 8;
 pub const DIV: u32 = 9;
 pub const CONTROL: u32 = 11;
@@ -15,7 +15,7 @@ pub const ST: u32 = 13;
 pub const BRANCH: u32 = 14;
 pub const CALL: u32 = 15;
 
-/// Where an LD or ST goes: the address first reduced to the store, or a device.
+/// Where an LD or ST goes: the address reduced to the store, or a device.
 #[derive(Clone, Copy, PartialEq, Eq, Debug)]
 pub enum Place {
     Memory(usize),
@@ -64,20 +64,20 @@ pub fn moves_h(word: u32) -> bool {
     word & 0x408 == 0x408
 }
 
-/// Operation 11 with bit 10 clear that turns a cache off which is on.
+/// Operation 11 with bit 10 clear that turns off a cache that is on.
 #[inline(always)]
 pub fn clears_cache(word: u32, status: u32) -> bool {
     status & !word & CACHE_ON != 0
 }
 
-/// Address of an LD or ST, 16 bits, `register` being R.s; as a base 7 is zero.
+/// Address of an LD or ST, 16 bits, `register` being R.s; base register 7 means zero.
 #[inline(always)]
 pub fn address(word: u32, register: u32) -> usize {
     let base = if s(word) == 7 { 0 } else { register };
     (base.wrapping_add((word >> 3) & 0xFF) & 0xFFFF) as usize
 }
 
-/// The address sorted into memory (reduced to a store of `size` words) and devices.
+/// The address as memory (reduced to a store of `size` words) or device.
 #[inline(always)]
 pub fn place(word: u32, register: u32, size: usize) -> Place {
     let address = address(word, register);

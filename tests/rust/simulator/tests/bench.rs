@@ -1,11 +1,11 @@
 // The bench cases of the paper, and single-instruction semantics around them.
 // Paper: "Bench cases", "What a programmer sees".
-// Each case sets registers in the record and carries out one word.
+// Each case sets registers in the record and executes one word.
 mod common;
 use common::*;
 use simulator::{clock, reset, run, Flags};
 
-/// R.1 op R.2 carried out; result in R.1, H and the flags.
+/// R.1 op R.2, executed: the result in R.1, H and the flags.
 fn carry_out(operation: u32, b: u32, a: u32) -> (u32, u32, Flags) {
     let mut bench = Bench::new(&[register(operation, 1, 2)], 64);
     bench.record.registers[1] = b;
@@ -19,28 +19,28 @@ fn flags(n: u64, z: u64, c: u64, v: u64) -> Flags {
 }
 
 #[test]
-fn sums_and_differences() {
+fn s5_1_sums_and_differences() {
     assert_eq!(carry_out(SUB, 0, 1), (0xFFFF_FFFF, 0, flags(1, 0, 1, 0)));
     assert_eq!(carry_out(ADD, 0x7FFF_FFFF, 1), (0x8000_0000, 0, flags(1, 0, 0, 1)));
     assert_eq!(carry_out(ADD, 0x8000_0000, 0x8000_0000), (0, 0, flags(0, 1, 1, 1)));
 }
 
 #[test]
-fn rotation() {
+fn s5_4_rotation() {
     assert_eq!(carry_out(ROR, 1, 1), (0x8000_0000, 0, flags(1, 0, 0, 0)));
     assert_eq!(carry_out(ROR, 1, 32), (1, 0, flags(0, 0, 1, 0)));
     assert_eq!(carry_out(ROR, 0x0000_0006, 1), (3, 0, flags(0, 0, 1, 0)));
 }
 
 #[test]
-fn products() {
+fn s5_5_products() {
     assert_eq!(carry_out(MUL, u32::MAX, u32::MAX), (1, 0, flags(0, 0, 0, 0)));
     assert_eq!(carry_out(MUL, 0x8000_0000, 0x8000_0000), (0, 0x4000_0000, flags(0, 1, 0, 0)));
     assert_eq!(carry_out(MUL, 3, -5i32 as u32), (-15i32 as u32, u32::MAX, flags(1, 0, 0, 0)));
 }
 
 #[test]
-fn quotients() {
+fn s5_7_quotients() {
     assert_eq!(carry_out(DIV, -7i32 as u32, 2), (-4i32 as u32, 1, flags(1, 0, 0, 0)));
     assert_eq!(carry_out(DIV, -8i32 as u32, 3), (-3i32 as u32, 1, flags(1, 0, 0, 0)));
     assert_eq!(carry_out(DIV, 0x8000_0000, 1), (0x8000_0000, 0, flags(1, 0, 0, 0)));
@@ -49,7 +49,7 @@ fn quotients() {
 }
 
 #[test]
-fn arithmetic_against_wide_integers() {
+fn s1_19_arithmetic_against_wide_integers() {
     let mut random = Random(1);
     for _ in 0..2000 {
         let (b, a) = (random.word(), random.word());
@@ -70,7 +70,7 @@ fn arithmetic_against_wide_integers() {
 }
 
 #[test]
-fn logic_and_moves() {
+fn s1_6_logic_and_moves() {
     let (b, a) = (0xF0F0_1234, 0x00FF_8001);
     let expected = [(1, !a), (4, b & a), (5, b & !a), (6, b | a), (7, b ^ a), (0, a)];
     for (operation, result) in expected {
@@ -84,7 +84,7 @@ fn logic_and_moves() {
 }
 
 #[test]
-fn addresses() {
+fn s5_10_addresses() {
     let mut bench = Bench::new(&[ld(0, 1, 1), ld(2, 3, 0), st(2, 3, 1)], 2048);
     bench.record.registers[1] = 0xFFFF;
     bench.record.registers[3] = 0xFFBF;
@@ -96,7 +96,7 @@ fn addresses() {
 }
 
 #[test]
-fn seven_as_a_base_is_zero() {
+fn s6_5_seven_as_a_base_is_zero() {
     let mut bench = Bench::new(&[ld(0, 7, 9)], 64);
     bench.record.registers[7] = 3;
     bench.finish();
@@ -104,7 +104,7 @@ fn seven_as_a_base_is_zero() {
 }
 
 #[test]
-fn store_then_load_of_another_block() {
+fn s5_12_store_then_load_of_another_block() {
     let mut bench = Bench::new(&[status(8), st(0, 7, 0), ld(1, 7, 128)], 2048);
     assert_eq!((bench.charge(), bench.charge(), bench.charge()), (1, 12, 22));
     assert_eq!((bench.record.state.refills, bench.record.state.writebacks), (2, 1));
@@ -112,7 +112,7 @@ fn store_then_load_of_another_block() {
 }
 
 #[test]
-fn conditions() {
+fn s1_26_conditions() {
     for index in 0..16u32 {
         let (n, z, c, v) = (index & 8 != 0, index & 4 != 0, index & 2 != 0, index & 1 != 0);
         let hold =
@@ -127,7 +127,7 @@ fn conditions() {
 }
 
 #[test]
-fn jumps_calls_and_interrupts() {
+fn s1_21_jumps_calls_and_interrupts() {
     let mut bench = Bench::new(&[jump_link(1, 1), call(0xFFE), jump(2), rti(7)], 64);
     bench.record.registers[1] = 0xF001;
     bench.record.registers[2] = 0x0F03;
@@ -150,7 +150,7 @@ fn jumps_calls_and_interrupts() {
 }
 
 #[test]
-fn beside_a_programs_own_never_an_interrupt_is_taken() {
+fn s6_7_beside_a_programs_own_never_an_interrupt_is_taken() {
     let mut bench = Bench::new(&[0x3BC00], 64);
     bench.record.state.status = 1;
     bench.tick(1, 0);
@@ -158,7 +158,7 @@ fn beside_a_programs_own_never_an_interrupt_is_taken() {
 }
 
 #[test]
-fn accepted_and_refused_lengths() {
+fn s5_13_accepted_and_refused_lengths() {
     for (length, expected) in [(4096, Ok(0)), (4097, Err(3)), (1, Ok(0)), (0, Err(3))] {
         let (program, mut store) = (vec![0x3FFFF; length], vec![0; 64]);
         let mut record = reset(&store).unwrap();
@@ -176,9 +176,9 @@ fn accepted_and_refused_lengths() {
         }
     }
     for (length, expected) in [(0, Ok(0)), (65536, Ok(65536)), (65537, Err(6))] {
-        let (lines, inputs) = (vec![0; length], vec![0; length]);
+        let (line_bytes, inputs) = (vec![0; length], vec![0; length]);
         let (mut bytes, mut words) = (vec![0; length], vec![0; length]);
-        let ran = run(&mut record, &[0], &mut store, &lines, &inputs, &mut bytes, &mut words);
+        let ran = run(&mut record, &[0], &mut store, &line_bytes, &inputs, &mut bytes, &mut words);
         assert_eq!(ran.map(|ran| ran.used), expected);
     }
 }

@@ -1,10 +1,10 @@
-// Charges of every row of the clock table, with and without held clocks in every place.
+// Charges of every row of the clock table, with and without held clocks at every position.
 // Paper: "Clock by clock", the table.
 // A charge is the unheld clocks from ready to the instruction's end.
 mod common;
 use common::*;
 
-/// A bench whose cache is on and holds block 0 of a 2,048-word store, dirty or clean.
+/// A machine whose cache is on and holds block 0 of a 2,048-word store, dirty or clean.
 fn cached(program: &[u32], dirty: bool) -> Bench {
     let mut bench = Bench::new(program, 2048);
     bench.record.state.status = 8;
@@ -60,7 +60,7 @@ fn rows() -> Vec<(Bench, u64)> {
 }
 
 #[test]
-fn every_row() {
+fn s2_6_every_row() {
     for (mut bench, charge) in rows() {
         let word = bench.program[0];
         assert_eq!(bench.charge(), charge, "word {word:05X}");
@@ -69,7 +69,7 @@ fn every_row() {
 }
 
 #[test]
-fn held_clocks_only_count() {
+fn s2_2_held_clocks_only_count() {
     for place in 0..161 {
         for (mut bench, charge) in rows().into_iter().filter(|(_, charge)| *charge > place) {
             for _ in 0..place {
@@ -86,7 +86,7 @@ fn held_clocks_only_count() {
 }
 
 #[test]
-fn nothing_a_programmer_sees_before_the_last_clock() {
+fn s2_5_nothing_a_programmer_sees_before_the_last_clock() {
     for (mut bench, charge) in rows() {
         let seen = |bench: &Bench| {
             let state = &bench.record.state;

@@ -1,12 +1,12 @@
 // The refusal table: rows, their order, and that a refused call changes nothing.
 // Paper: "Where calls are turned down".
-// A short list; the long one, against the library too, is in ../../compare.
+// A short list; the long one, also against the library, is in ../../compare.
 mod common;
 use common::*;
 use simulator::{clock, copy, look, run, shows_write, watch};
 
 #[test]
-fn order_of_the_rows() {
+fn s3_1_order_of_the_rows() {
     let mut bench = Bench::new(&[0], 64);
     let mut small = vec![0; 128];
     bench.record.state.clocks = 0xFFFF_FFFF;
@@ -31,7 +31,7 @@ fn order_of_the_rows() {
 }
 
 #[test]
-fn looks_copies_and_the_watch() {
+fn s2_35_looks_copies_and_the_watch() {
     let mut bench = Bench::new(&[status(8), st(1, 7, 3), 0], 64);
     bench.record.registers[1] = 77;
     bench.finish();
@@ -50,9 +50,9 @@ fn looks_copies_and_the_watch() {
     assert!(shows_write(63, 0xFE) && !shows_write(63, 0xFD) && !shows_write(62, 0xFE));
 }
 
-/// Every record met on a run is accepted, and the phases are all met.
+/// Every record reached in a run is accepted, and every phase is reached.
 #[test]
-fn records_met_are_accepted() {
+fn s2_45_records_met_are_accepted() {
     let mut random = Random(3);
     let mut phases = [0; 6];
     for _ in 0..300 {
@@ -62,8 +62,8 @@ fn records_met_are_accepted() {
             *register = random.word();
         }
         for _ in 0..400 {
-            let line = random.next() as u8 & 7 & random.next() as u8;
-            bench.tick(line, random.next() as u32);
+            let line_byte = random.next() as u8 & 7 & random.next() as u8;
+            bench.tick(line_byte, random.next() as u32);
             phases[bench.record.state.phase as usize] += 1;
         }
     }

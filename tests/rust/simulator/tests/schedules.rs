@@ -1,4 +1,4 @@
-// Which word moves in which clock of a ten, and when counts and lines change.
+// Which word moves in which clock of a burst, and when counts and cache lines change.
 // Paper: "Clock by clock", the paragraph on the cache.
 // Store words are 5000_0000H + address, cached words here C000_0000H + index.
 mod common;
@@ -30,7 +30,7 @@ fn stored_at(bench: &mut Bench, charge: u64) -> Vec<(usize, u64)> {
 }
 
 #[test]
-fn emptying_writes_lowest_line_first() {
+fn s2_12_emptying_writes_lowest_line_first() {
     let dirty = [2, 5, 15];
     let mut bench = bench_with(&[status(0)], &dirty);
     let stored = stored_at(&mut bench, 31);
@@ -46,7 +46,7 @@ fn emptying_writes_lowest_line_first() {
 }
 
 #[test]
-fn emptying_phases() {
+fn s2_22_emptying_phases() {
     let mut bench = bench_with(&[status(0)], &[1, 9]);
     for clock in 1..=20u64 {
         bench.tick(0, 0);
@@ -65,7 +65,7 @@ fn emptying_phases() {
 }
 
 #[test]
-fn dirty_miss() {
+fn s2_18_dirty_miss() {
     for word in [ld(3, 7, 131), st(3, 7, 131)] {
         let mut bench = bench_with(&[word], &[0]);
         bench.record.registers[3] = 99;
@@ -100,7 +100,7 @@ fn dirty_miss() {
 }
 
 #[test]
-fn clean_miss() {
+fn s2_18_clean_miss() {
     let mut bench = bench_with(&[ld(3, 7, 131)], &[]);
     bench.record.cache.lines[0] = Line { full: 1, dirty: 0, block: 0 };
     for clock in 1..=12usize {

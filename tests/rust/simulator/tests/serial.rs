@@ -1,6 +1,6 @@
 // The multiplier and divider registers after each step, against the paper's closed formulas in i128.
 // Paper: "Clock by clock", "After k multiplier steps".
-// The record is looked at after each of the 32 clocks, and every one of those records must be accepted.
+// The record is examined after each of the 32 clocks, and each of these records must be accepted.
 mod common;
 use common::*;
 
@@ -28,7 +28,7 @@ fn divider(b: u32, a: u32, k: u32) -> (u64, u64) {
 }
 
 #[test]
-fn after_each_step() {
+fn s2_13_after_each_step() {
     let mut random = Random(2);
     for _ in 0..3000 {
         let (b, a) = (random.word(), random.word());

@@ -1,6 +1,6 @@
-// A stand-in for the library: the C interface over a copy of the simulator, to try the comparison out.
+// A stand-in for the library: the C interface over a copy of the simulator, to test the comparison.
 // Paper: the calls of "Clock by clock"; the record's layout is that of include/trm.h.
-// A refused clock or run answers the record as given and zeros, a refused reset a record of zeros.
+// A refused clock or run returns the record as given and zeros, a refused reset a record of zeros.
 use planted::{Cache, Flags, Line, Record, State};
 use std::slice::{from_raw_parts, from_raw_parts_mut};
 
@@ -138,12 +138,12 @@ pub unsafe extern "C" fn trm_clock_value(
     np: usize,
     store: *mut u32,
     n: usize,
-    line: u8,
+    line_byte: u8,
     input: u32,
 ) -> ClockValueAnswer {
     let mut record = to_record(&m);
     let (program, store) = (from_raw_parts(program, np), from_raw_parts_mut(store, n));
-    let answer = planted::clock(&mut record, program, store, line, input);
+    let answer = planted::clock(&mut record, program, store, line_byte, input);
     let number = answer.err().unwrap_or(0);
     let answer = answer.unwrap_or_default();
     let machine = from_record(&record);
@@ -157,10 +157,10 @@ pub unsafe extern "C" fn trm_clock(
     np: usize,
     store: *mut u32,
     n: usize,
-    line: u8,
+    line_byte: u8,
     input: u32,
 ) -> ClockAnswer {
-    let answer = trm_clock_value(*m, program, np, store, n, line, input);
+    let answer = trm_clock_value(*m, program, np, store, n, line_byte, input);
     let ClockValueAnswer { machine, number, byte, word, finished } = answer;
     *m = machine;
     ClockAnswer { number, byte, word, finished }
@@ -173,7 +173,7 @@ pub unsafe extern "C" fn trm_run(
     np: usize,
     store: *mut u32,
     n: usize,
-    lines: *const u8,
+    line_bytes: *const u8,
     nl: usize,
     inputs: *const u32,
     ni: usize,
@@ -184,9 +184,9 @@ pub unsafe extern "C" fn trm_run(
 ) -> RunAnswer {
     let mut record = to_record(&m);
     let (program, store) = (from_raw_parts(program, np), from_raw_parts_mut(store, n));
-    let (lines, inputs) = (from_raw_parts(lines, nl), from_raw_parts(inputs, ni));
+    let (line_bytes, inputs) = (from_raw_parts(line_bytes, nl), from_raw_parts(inputs, ni));
     let (bytes, words) = (from_raw_parts_mut(bytes, nb), from_raw_parts_mut(words, nw));
-    let answer = planted::run(&mut record, program, store, lines, inputs, bytes, words);
+    let answer = planted::run(&mut record, program, store, line_bytes, inputs, bytes, words);
     let number = answer.err().unwrap_or(0);
     let answer = answer.unwrap_or_default();
     RunAnswer { machine: from_record(&record), number, used: answer.used, finished: answer.finished }

@@ -1,8 +1,7 @@
--- The record lent for one clock, its arrays lent on: a walk of its MIR, by hand. The record's borrow is opened and the scalars are read;
--- the record in memory is taken apart into its fields in memory (`denote.Struct.Parts`), each array is lent to `placed::clock` for a
--- lifetime of the call and comes back at its last list, the fields are put together, the scalars are stored, and the borrow is closed. The
--- caller's slices are passed on at their own lifetimes. No element of an array is read or written here.
--- All that the proof knows of `placed::clock` is that it meets its contract. Assumes nothing.
+-- A walk over the MIR of the lent clock, by hand. The record's borrow is opened and the scalars are read; the record in memory is taken
+-- apart into its fields in memory (`denote.Struct.Parts`); each array is lent to `placed::clock` for a lifetime of the call and comes back
+-- with its last list; the fields are joined again, the scalars are stored, and the borrow is closed. The caller's slices are passed on at
+-- their own lifetimes. No element of an array is read or written here. Of `placed::clock` the proof uses its contract alone.
 use mathlib.Core.Path.{_≡_, refl, sym, ap}
 use Prim.Native.Nat.{ℕ, _<_, _+_, _^_}
 use mathlib.Core.List.{[], _∷_, List, map-id}
@@ -55,22 +54,22 @@ use denote.Triple.Walked.{ends-at, walked, walk-meets}
 use denote.Exit.{yes}
 use denote.Signature.{plain, shrSliceOf}
 use Rattle.trm_core.specs.declared.record.Scalars.{Scalars}
-use Rattle.trm_engine.specs.declared.machine.Machine.{Machine}
-use Rattle.trm_engine.specs.Machine.{recordOf, parts}
-use Rattle.trm_engine.proofs.Laws.Shape.{shaped-by-type}
+use Rattle.trm_run_machine.specs.declared.machine.Machine.{Machine}
+use Rattle.trm_run_machine.specs.Machine.{recordOf, parts}
+use Rattle.trm_run_machine.proofs.Laws.Shape.{shaped-by-type}
 use Rattle.trm_reference.specs.Geometry.{paperGeometry}
 use Rattle.trm_core.specs.Claims.{Shaped}
 use Rattle.trm.specs.Promises.{ClockNumbered, withParts}
 use Rattle.trm.specs.declared.inner.placed.Placed.{Placed}
-use Rattle.trm.specs.declared.answer.LentAnswer.{LentAnswer}
-use Rattle.trm_engine.proofs.machine.Machine as T
-use Rattle.trm_engine.proofs.machine.Machine.Laws as T′
+use Rattle.trm.specs.declared.exported_answers.LentAnswer.{LentAnswer}
+use Rattle.trm_run_machine.proofs.machine.Machine as T
+use Rattle.trm_run_machine.proofs.machine.Machine.Laws as T′
 use Rattle.trm_core.proofs.record.Scalars as S
 use Rattle.trm_core.proofs.record.Scalars.Laws as S′
 use Rattle.trm.proofs.inner.placed.Placed as K
 use Rattle.trm.proofs.inner.placed.Placed.Laws as K′
-use Rattle.trm.proofs.answer.LentAnswer as N
-use Rattle.trm.proofs.answer.LentAnswer.Laws as N′
+use Rattle.trm.proofs.exported_answers.LentAnswer as N
+use Rattle.trm.proofs.exported_answers.LentAnswer.Laws as N′
 use Rattle.trm.proofs.inner.placed.clock as clock
 use Rattle.trm.proofs.inner.placed.clock.Symbol as clock-def
 use Rattle.trm.proofs.inner.placed.clock.Symbol.{name as #clock}
@@ -80,7 +79,7 @@ use Rattle.trm.proofs.lent.trm_clock as f
 use Rattle.trm.proofs.lent.trm_clock.Statement as stated
 use Rattle.trm.proofs.lent.trm_clock.Code as code
 
--- the arrays' types; the record's fields, each with its one MIR type
+-- the types of the arrays; the record's fields, each with its one MIR type
 abbrev R1 : RattleType
 R1 = Array u32 16
 
@@ -119,7 +118,7 @@ ToClock 𝓤 H A at-mem run = tripleOf 𝓤 H A clock.signature (clock.spec 𝓤
 abbrev answerOf : Placed → LentAnswer
 answerOf r = record { number = r .number; byte = r .byte; word = r .word; finished = r .finished }
 
--- ---- the record in memory is its fields in memory, all out at once, and back at any record
+-- ---- the record in memory is its fields in memory: all are taken out at once, and joined again to any record
 module _ {M : Type 1} (𝓤 : URA M) (H : Heap 𝓤) (A : Atoms 𝓤) (W : Given 𝓤 H A) (b o : ℕ) where
   abbrev lawful : Lawfuls 𝓤 H A (rowsOf members)
   lawful = LL.lawfuls 𝓤 H A W (T.the-type .parts) T′.the-laws
@@ -146,7 +145,7 @@ module _ {M : Type 1} (𝓤 : URA M) (H : Heap 𝓤) (A : Atoms 𝓤) (W : Given
   abbrev x : RefT (List ℕ)
   x = record { ptr = (b′, o′); name = γ′; now = ys }
 
-  -- the arrays' borrows, where they lie in the record
+  -- the borrows of the arrays, at their offsets in the record
   abbrev x1 : GName → RefT (List ℕ)
   x1 δ = record { ptr = (b, o + 128); name = δ; now = h .regs }
 
@@ -213,7 +212,7 @@ module _ {M : Type 1} (𝓤 : URA M) (H : Heap 𝓤) (A : Atoms 𝓤) (W : Given
   abbrev Post : Val → SProp 𝓤
   Post = walkOf 𝓤 H A f.ended stayed (f.clauses 𝓤 H A at-mem run) .post (((κ, (κ₁, (κ₂, tt))), (q, (q₁, (q₂, tt))), tt, a, vals), tt)
 
-  -- what `placed::clock` says, at the lists that it leaves
+  -- what `placed::clock` ensures, at the lists that it leaves
   abbrev Said : Placed → List ℕ → List ℕ → List ℕ → List ℕ → List ℕ → List ℕ → Type 0
   Said r x1s x2s x3s x4s x5s zs = ClockNumbered h (p .now) ys n i (withParts r x1s x2s x3s x4s x5s) zs
 
@@ -296,7 +295,7 @@ module _ {M : Type 1} (𝓤 : URA M) (H : Heap 𝓤) (A : Atoms 𝓤) (W : Given
   goes shaped ν1 ν2 ν3 ν4 ν5 δ1 δ2 δ3 δ4 δ5 = qed W (tokens ν1 ν2 ν3 ν4 ν5 ∷ ‵
       (given-all ν1 ν2 ν3 ν4 ν5 δ1 δ2 δ3 δ4 δ5) ∷ []) ∵ says ! shaped $ frame ! $ done !
 
-  -- the record after the call, and with the scalars stored
+  -- the record after the call, and after the scalars are stored
   abbrev after-call : List ℕ → List ℕ → List ℕ → List ℕ → List ℕ → Machine
   after-call x1s x2s x3s x4s x5s = parts (h .scalars) x1s x2s x3s x4s x5s
 
@@ -543,7 +542,7 @@ module _ {M : Type 1} (𝓤 : URA M) (H : Heap 𝓤) (A : Atoms 𝓤) (W : Given
         peeks ! K.the-row (Is K.the-row) (shows 𝓤 H A K.the-row) r (w ∷ []) (λ is. drop ! $
         land ! (from ! (stop !)) (init ! 35 refl (LL.lawful K.the-type K′.the-laws 𝓤 H A W .typed r _ is .0)) $ rewrite ! 35 (λ
         (u : Val). ‵ (fat fullShare K′.mir l₆ 0 u)) (ap only (LL.tells K.the-type K′.the-laws r _ is)) refl $
-        -- the lifetimes are ended, the arrays come back at their last lists, and the fields are the record again
+        -- the lifetimes end, the arrays come back with their last lists, and the fields are joined to the record again
         split ! $
         move ! (1 ∷ []) $
         split ! $ lft-end ! tt $

@@ -1,6 +1,3 @@
--- The instruction of a word of operation 0-10.
--- By what the three parts ensure.
--- Assumes nothing.
 use Rattle.trm_codec.specs.Decode.{arithmeticOf}
 use borrow.Author.Needs.{needs}
 use Rattle.trm_codec.proofs.decoder.arithmetic.Statement.{statement}

@@ -1,6 +1,4 @@
--- The instruction of a word of operation 11.
--- Each way out: the tests that led there, bit 10 and then bits 9–8.
--- Assumes nothing.
+-- By cases of bit 10, then of bits 9–8.
 use borrow.Author.Tests.{eq-eqb, ne-eqb}
 use Rattle.trm_codec.specs.Decode.{controlOf}
 use Rattle.trm_codec.proofs.decoder.control.Statement.{statement}

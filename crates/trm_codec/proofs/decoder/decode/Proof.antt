@@ -1,6 +1,4 @@
--- Decode: the instruction of a word, or the refusal.
--- Each arm of the match on the operation; past 14 the list gives its default.
--- Assumes nothing.
+-- One case per match arm; above 14 the list of the definition gives its default.
 use Rattle.trm_codec.specs.Decode.{otherForms}
 use Rattle.trm_codec.specs.declared.instruction.Instruction.the-variants.{Call}
 use Rattle.trm_word.specs.Fields.{operation, callOffset}
@@ -15,7 +13,7 @@ use borrow.Author.Needs.{needs}
 use Rattle.trm_codec.proofs.decoder.decode.Statement.{statement}
 use Rattle.trm_codec.proofs.decoder.decode.Tie as tie
 
--- past the first test the word is one of 18 bits
+-- after the first test the word has 18 bits
 word-fits : (c : tie.Else1) → c .before .args .word ≤ 0x3FFFF
 word-fits c = omega (arith, c .if1 .left)
 

@@ -1,6 +1,4 @@
--- Whether a word is MOV from H.
--- Each way out: the tests that led there, in the order of the definition.
--- Assumes nothing.
+-- By cases of its three tests, in the order of the definition.
 use borrow.Author.Tests.{eq-eqb, ne-eqb}
 use Rattle.trm_codec.proofs.decoder.moves_high.Statement.{statement}
 use Rattle.trm_codec.proofs.decoder.moves_high.Tie as tie

@@ -1,6 +1,4 @@
--- The operand A of operations 0-10.
--- Two ways out, by bit 10.
--- Assumes nothing.
+-- By cases of bit 10.
 use borrow.Author.Tests.{eq-eqb, ne-eqb}
 use Rattle.trm_codec.proofs.decoder.operand_of.Statement.{statement}
 use Rattle.trm_codec.proofs.decoder.operand_of.Tie as tie

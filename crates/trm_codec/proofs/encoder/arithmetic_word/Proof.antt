@@ -1,6 +1,4 @@
--- The word of an operation 0-10.
--- Each way out: d, then the operand by its kind.
--- Assumes nothing.
+-- By cases: d fits or not, then the kind of operand and whether it fits.
 use Prim.Native.Nat.{_≤_, _<_}
 use native.Mathlib.Omega.{arith}
 use Rattle.trm_codec.specs.Encode.{encodeOf}

@@ -1,6 +1,4 @@
--- The word of a branch.
--- Each way out: the tests on condition and offset, in order.
--- Assumes nothing.
+-- By cases: the condition fits or not, then the offset.
 use borrow.Author.Tests.{lt-ltb, le-ltb}
 use Rattle.trm_codec.specs.Encode.{encodeOf}
 use borrow.Author.Needs.{needs}

@@ -1,6 +1,4 @@
--- Encode: the word of an instruction, or the refusal.
--- Each arm of the match on the instruction, by what its part ensures.
--- Assumes nothing.
+-- One case per form: the word is what the called function ensures.
 use Rattle.trm_codec.specs.Encode.{encodeOf}
 use Rattle.trm_codec.proofs.Laws.Numbers.{encodes}
 use borrow.Author.Needs.{needs}

@@ -1,6 +1,4 @@
--- The word of a form with one field.
--- Two ways out, by the test on the field.
--- Assumes nothing.
+-- By cases: the field fits or not.
 use borrow.Author.Tests.{lt-ltb, le-ltb}
 use borrow.Author.Needs.{needs}
 use Rattle.trm_codec.proofs.encoder.field_word.Statement.{statement}

@@ -1,6 +1,4 @@
--- The word of a jump that links.
--- Each way out: the tests on d and s, in order.
--- Assumes nothing.
+-- By cases: d fits or not, then s.
 use borrow.Author.Tests.{lt-ltb, le-ltb}
 use Rattle.trm_codec.specs.Encode.{encodeOf}
 use borrow.Author.Needs.{needs}

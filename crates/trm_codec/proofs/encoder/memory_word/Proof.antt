@@ -1,6 +1,4 @@
--- The word of LD or ST.
--- Each way out: the tests on d, s and the offset, in order.
--- Assumes nothing.
+-- By cases: d fits or not, then s, then the offset.
 use borrow.Author.Tests.{lt-ltb, le-ltb}
 use borrow.Author.Needs.{needs}
 use Rattle.trm_codec.proofs.encoder.memory_word.Statement.{statement}

@@ -1,6 +1,4 @@
--- The word of MOV from H.
--- Two ways out, by the test on d.
--- Assumes nothing.
+-- By cases: d fits or not.
 use borrow.Author.Tests.{lt-ltb, le-ltb}
 use Rattle.trm_codec.specs.Encode.{encodeOf}
 use borrow.Author.Needs.{needs}

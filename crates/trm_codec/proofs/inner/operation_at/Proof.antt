@@ -1,6 +1,4 @@
--- The operation of a number.
--- Each arm computes; past the ten arms the list gives its default.
--- Assumes nothing.
+-- One case per match arm; in the default arm the list gives its default, ROR.
 use Rattle.trm_codec.specs.Operations.{operations}
 use Rattle.trm_codec.specs.declared.instruction.Operation.the-variants.{Ror}
 use Rattle.trm_laws.proofs.Match.{past}

@@ -1,4 +1,3 @@
--- The proof of trm_image::reader::accepted.
 use borrow.Author.Needs.{needs}
 use Rattle.trm_image.proofs.reader.accepted.Statement.{statement}
 use Rattle.trm_image.proofs.reader.accepted.Tie as tie

@@ -1,5 +1,4 @@
--- The proof of trm_image::reader::check.
--- Invariant: the first fault from here on is that of the image. The measure is the bytes left.
+-- Invariant: the first fault from `at` on is the image's first fault. Measure: the bytes left.
 use mathlib.Core.Path.{_≡_, refl, sym, ap, _∙_}
 use Prim.Native.Nat.{_-_, _≤_}
 use mathlib.Core.Bool.{true, false}

@@ -1,4 +1,3 @@
--- The proof of trm_image::reader::payload.
 use mathlib.Core.Path.{sym, ap, _∙_}
 use lib.Dec.{eqb}
 use borrow.Author.Tests.{not-true, not-false}

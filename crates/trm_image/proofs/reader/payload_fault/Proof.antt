@@ -1,4 +1,4 @@
--- The proof of trm_image::reader::payload_fault.
+-- Case split on the first row that fails.
 use mathlib.Core.Path.{sym, _∙_}
 use native.Mathlib.Omega.{arith}
 use borrow.Author.Tests.{lt-ltb, le-ltb, not-false}

@@ -1,7 +1,7 @@
 // Programs for the switches about devices, local memory and reset: ADR16, IO1, RESET, DMIO, FILL and MEMORY.
 // Source: "The Local Data Memory", "Input and Output", "The control unit". Paper: LD and ST, "Reset makes everything zero".
 // IO1 changes no listing: the device accesses show it. RESET shows in a listing after a second reset.
-use super::{listing, quiet, Case, Expect, Line::Word, State, Step, LONG};
+use super::{listing, quiet, Case, Expect, Row::Word, State, Step, LONG};
 use circuit::words::*;
 use circuit::Switch;
 
@@ -21,12 +21,12 @@ pub const CASES: &[Case] = &[
         base: &[],
         steps: &[Step::Clocks(11, 0, 5)],
         published: Expect {
-            lines: &[Word(1, 0, 1), Word(2, 1, 1), Word(4, 2, 2), Word(5, 3, 1), Word(6, 4, 1)],
+            rows: &[Word(1, 0, 1), Word(2, 1, 1), Word(4, 2, 2), Word(5, 3, 1), Word(6, 4, 1)],
             accesses: &[(4, 1, 5)],
             state: &[State::Register(0, 5)],
         },
         document01: Expect {
-            lines: &[Word(1, 0, 1), Word(2, 1, 1), Word(8, 2, 6), Word(9, 3, 1), Word(11, 4, 2)],
+            rows: &[Word(1, 0, 1), Word(2, 1, 1), Word(8, 2, 6), Word(9, 3, 1), Word(11, 4, 2)],
             accesses: &[],
             state: &[State::Register(0, 0)],
         },
@@ -44,12 +44,12 @@ pub const CASES: &[Case] = &[
             Step::Clocks(2, 0, 0x44),
         ],
         published: Expect {
-            lines: &[Word(1, 0, 1), Word(3, 1, 2), Word(5, 2, 1)],
+            rows: &[Word(1, 0, 1), Word(3, 1, 2), Word(5, 2, 1)],
             accesses: &[(2, 13, 0x11), (3, 13, 0x22), (4, 18, 0x22), (5, 18, 0x22)],
             state: &[State::Register(0, 0x22)],
         },
         document01: Expect {
-            lines: &[Word(1, 0, 1), Word(3, 1, 2), Word(5, 2, 1)],
+            rows: &[Word(1, 0, 1), Word(3, 1, 2), Word(5, 2, 1)],
             accesses: &[(3, 13, 0x22), (5, 18, 0x22)],
             state: &[State::Register(0, 0x22)],
         },
@@ -60,8 +60,8 @@ pub const CASES: &[Case] = &[
         program: &[literal(ADD, 0, 1), LONG],
         base: &[],
         steps: &[quiet(1), Step::Reset, quiet(1)],
-        published: Expect { lines: &[Word(1, 0, 1)], accesses: &[], state: &[State::Register(0, 2)] },
-        document01: Expect { lines: &[Word(1, 0, 1)], accesses: &[], state: &[State::Register(0, 1)] },
+        published: Expect { rows: &[Word(1, 0, 1)], accesses: &[], state: &[State::Register(0, 2)] },
+        document01: Expect { rows: &[Word(1, 0, 1)], accesses: &[], state: &[State::Register(0, 1)] },
     },
     Case {
         switch: Switch::Reset,
@@ -90,7 +90,7 @@ pub const CASES: &[Case] = &[
         base: &[],
         steps: &[quiet(15)],
         published: Expect {
-            lines: &[
+            rows: &[
                 Word(1, 0, 1),
                 Word(2, 1, 1),
                 Word(3, 2, 1),
@@ -106,7 +106,7 @@ pub const CASES: &[Case] = &[
             state: &[State::Register(1, 1)],
         },
         document01: Expect {
-            lines: &[
+            rows: &[
                 Word(1, 0, 1),
                 Word(2, 1, 1),
                 Word(3, 2, 1),
@@ -137,12 +137,12 @@ pub const CASES: &[Case] = &[
         base: &[],
         steps: &[quiet(12)],
         published: Expect {
-            lines: &[Word(1, 0, 1), Word(2, 1, 1), Word(4, 2, 2)],
+            rows: &[Word(1, 0, 1), Word(2, 1, 1), Word(4, 2, 2)],
             accesses: &[],
             state: &[State::Register(2, 3)],
         },
         document01: Expect {
-            lines: &[Word(1, 0, 1), Word(6, 1, 5), Word(12, 2, 6)],
+            rows: &[Word(1, 0, 1), Word(6, 1, 5), Word(12, 2, 6)],
             accesses: &[],
             state: &[State::Register(2, 3)],
         },

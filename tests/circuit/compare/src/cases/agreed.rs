@@ -1,7 +1,7 @@
-// Programs on which the published circuit agrees without help: every switch on Published but FILL.
+// Programs on which the published circuit agrees as it is: every switch on Published but FILL.
 // Source: Part 1. Paper: the clock table, "R7 as a base read as a register" and "32 clocks for MUL" of its misreadings.
-// These two misreadings are of the source's prose; its circuit has 33 clocks and a base of zero, as document 01.
-use super::{listing, quiet, Expect, Line::Word, State, Step, LONG};
+// These two misreadings come from the source's prose; its circuit has 33 clocks and a base of zero, like document 01.
+use super::{listing, quiet, Expect, Row::Word, State, Step, LONG};
 use circuit::words::*;
 
 pub struct Agreed {
@@ -13,7 +13,7 @@ pub struct Agreed {
 
 pub const AGREED: &[Agreed] = &[
     Agreed {
-        what: "MUL and DIV take 33 clocks; a taken branch, BL and BR take 2",
+        what: "S6.1 MUL and DIV take 33 clocks; a taken branch, BL and BR take 2",
         program: &[
             literal(MOV, 0, 7),
             literal(MUL, 0, 6),
@@ -28,7 +28,7 @@ pub const AGREED: &[Agreed] = &[
         ],
         steps: &[quiet(75)],
         expect: Expect {
-            lines: &[
+            rows: &[
                 Word(1, 0, 1),
                 Word(34, 1, 33),
                 Word(67, 2, 33),
@@ -43,23 +43,23 @@ pub const AGREED: &[Agreed] = &[
         },
     },
     Agreed {
-        what: "R7 is no base: with FFFFFFC0H in it LD R7 0 reads no device",
+        what: "S6.5 R7 is no base: with FFFFFFC0H in it LD R7 0 reads no device",
         program: &[literal(NOT, 7, 63), load(0, 7, 0), LONG],
         steps: &[Step::Clocks(3, 0, 9)],
-        expect: Expect { lines: &[Word(1, 0, 1), Word(3, 1, 2)], accesses: &[], state: &[State::Register(0, 0)] },
+        expect: Expect { rows: &[Word(1, 0, 1), Word(3, 1, 2)], accesses: &[], state: &[State::Register(0, 0)] },
     },
     Agreed {
-        what: "ST and LD of a device take 1 clock and 2; IO1 on Published shows the read in both",
+        what: "S2.9 ST and LD of a device take 1 clock and 2; IO1 on Published shows the read in both",
         program: &[literal(NOT, 5, 63), store(5, 5, 2), load(0, 5, 3), LONG],
         steps: &[Step::Clocks(4, 0, 9)],
         expect: Expect {
-            lines: &[Word(1, 0, 1), Word(2, 1, 1), Word(4, 2, 2)],
+            rows: &[Word(1, 0, 1), Word(2, 1, 1), Word(4, 2, 2)],
             accesses: &[(2, 10, 0xFFFF_FFC0), (3, 13, 9), (4, 13, 9)],
             state: &[State::Register(0, 9)],
         },
     },
     Agreed {
-        what: "0 - 1 sets N and C, and the branches on both are taken",
+        what: "S5.1 0 - 1 sets N and C, and the branches on both are taken",
         program: &[literal(SUB, 0, 1), branch(MI, 0), branch(CS, 0), branch(EQ, 0), LONG],
         steps: &[quiet(6)],
         expect: listing(&[Word(1, 0, 1), Word(3, 1, 2), Word(5, 2, 2), Word(6, 3, 1)]),

@@ -1,11 +1,11 @@
-// Programs for IRQ1: when a line is looked at, and how many clocks the interrupt takes.
+// Programs for IRQ1: when an interrupt line is sampled, and how many clocks the interrupt takes.
 // Source: "Interrupts", sampling before the acknowledge clock. Paper: "An unheld clock with no instruction in flight".
-// Every other switch stands on Document01. The entry of line 0 is word 2.
-use super::{listing, quiet, Case, Line::Irq, Line::Word, Step, LONG};
+// Every other switch is on Document01. The entry of interrupt line 0 is word 2.
+use super::{listing, quiet, Case, Row::Irq, Row::Word, Step, LONG};
 use circuit::words::*;
 use circuit::Switch;
 
-/// Clocks with line 0 high.
+/// Clocks with interrupt line 0 high.
 const fn high(count: u32) -> Step {
     Step::Clocks(count, 1, 0)
 }
@@ -20,8 +20,8 @@ const fn case(
     what: &'static str,
     program: &'static [u32],
     steps: &'static [Step],
-    published: &'static [super::Line],
-    document01: &'static [super::Line],
+    published: &'static [super::Row],
+    document01: &'static [super::Row],
 ) -> Case {
     let (published, document01) = (listing(published), listing(document01));
     Case { switch: Switch::Irq1, what, program, base: &[], steps, published, document01 }

@@ -1,7 +1,7 @@
 // Programs for the switches about held clocks: MUL33, HOLDLD, HOLDMUL, HOLDRTI and HOLDREG.
 // Source: "Stalling the processor", "The Multiplier", "Interrupts"; regwr is elided there. Paper: "A clock with stall set is held".
-// A line byte of 4 is a held clock; 5 is one with line 0 high.
-use super::{listing, quiet, Case, Expect, Line::Irq, Line::Word, State, Step, LONG};
+// A line byte of 4 is a held clock; 5 is one with interrupt line 0 high.
+use super::{listing, quiet, Case, Expect, Row::Irq, Row::Word, State, Step, LONG};
 use circuit::words::*;
 use circuit::Switch;
 
@@ -18,12 +18,12 @@ pub const CASES: &[Case] = &[
         base: &[],
         steps: &[quiet(33), hold(1), quiet(34)],
         published: Expect {
-            lines: &[Word(1, 0, 1), Word(67, 1, 65), Word(68, 2, 1)],
+            rows: &[Word(1, 0, 1), Word(67, 1, 65), Word(68, 2, 1)],
             accesses: &[],
             state: &[State::Register(0, 15)],
         },
         document01: Expect {
-            lines: &[Word(1, 0, 1), Word(35, 1, 33), Word(36, 2, 1)],
+            rows: &[Word(1, 0, 1), Word(35, 1, 33), Word(36, 2, 1)],
             accesses: &[],
             state: &[State::Register(0, 15)],
         },
@@ -35,12 +35,12 @@ pub const CASES: &[Case] = &[
         base: &[],
         steps: &[quiet(33), hold(1), quiet(34)],
         published: Expect {
-            lines: &[Word(1, 0, 1), Word(67, 1, 65), Word(68, 2, 1)],
+            rows: &[Word(1, 0, 1), Word(67, 1, 65), Word(68, 2, 1)],
             accesses: &[],
             state: &[State::Register(0, 3), State::High(2)],
         },
         document01: Expect {
-            lines: &[Word(1, 0, 1), Word(35, 1, 33), Word(36, 2, 1)],
+            rows: &[Word(1, 0, 1), Word(35, 1, 33), Word(36, 2, 1)],
             accesses: &[],
             state: &[State::Register(0, 3), State::High(2)],
         },
@@ -52,12 +52,12 @@ pub const CASES: &[Case] = &[
         base: &[],
         steps: &[quiet(1), hold(1), Step::Clocks(3, 0, 6)],
         published: Expect {
-            lines: &[Word(1, 0, 1), Word(3, 1, 1), Word(4, 2, 1)],
+            rows: &[Word(1, 0, 1), Word(3, 1, 1), Word(4, 2, 1)],
             accesses: &[(3, 1, 6)],
             state: &[State::Register(0, 6)],
         },
         document01: Expect {
-            lines: &[Word(1, 0, 1), Word(4, 1, 2), Word(5, 2, 1)],
+            rows: &[Word(1, 0, 1), Word(4, 1, 2), Word(5, 2, 1)],
             accesses: &[(4, 1, 6)],
             state: &[State::Register(0, 6)],
         },
@@ -69,12 +69,12 @@ pub const CASES: &[Case] = &[
         base: &[],
         steps: &[quiet(2), hold(1), Step::Clocks(3, 0, 6)],
         published: Expect {
-            lines: &[Word(1, 0, 1), Word(5, 1, 3), Word(6, 2, 1)],
+            rows: &[Word(1, 0, 1), Word(5, 1, 3), Word(6, 2, 1)],
             accesses: &[(5, 1, 6)],
             state: &[State::Register(0, 6)],
         },
         document01: Expect {
-            lines: &[Word(1, 0, 1), Word(4, 1, 2), Word(5, 2, 1)],
+            rows: &[Word(1, 0, 1), Word(4, 1, 2), Word(5, 2, 1)],
             accesses: &[(4, 1, 6)],
             state: &[State::Register(0, 6)],
         },
@@ -86,12 +86,12 @@ pub const CASES: &[Case] = &[
         base: &[],
         steps: &[quiet(11), hold(4), quiet(24)],
         published: Expect {
-            lines: &[Word(1, 0, 1), Word(34, 1, 29), Word(35, 2, 1)],
+            rows: &[Word(1, 0, 1), Word(34, 1, 29), Word(35, 2, 1)],
             accesses: &[],
             state: &[State::Register(0, 15)],
         },
         document01: Expect {
-            lines: &[Word(1, 0, 1), Word(38, 1, 33), Word(39, 2, 1)],
+            rows: &[Word(1, 0, 1), Word(38, 1, 33), Word(39, 2, 1)],
             accesses: &[],
             state: &[State::Register(0, 15)],
         },

@@ -1,16 +1,16 @@
 // Programs for the switches about the published interrupt's acknowledge: NOPIRQ, ACKMASK, PSRIRQ and ACKLINE.
 // Source: "Interrupts". Paper: the interrupt rule of "Clock by clock", misreadings.
 // Those of the acknowledge clock run with IRQ1 on Published, since document 01's interrupt has no such clock.
-use super::{listing, quiet, Case, Expect, Line::Irq, Line::Word, State, Step, LONG};
+use super::{listing, quiet, Case, Expect, Row::Irq, Row::Word, State, Step, LONG};
 use circuit::words::*;
 use circuit::Switch;
 
-/// Clocks with line 0, line 1 or both high.
-const fn lines(count: u32, line: u8) -> Step {
-    Step::Clocks(count, line, 0)
+/// Clocks with interrupt line 0, 1 or both high.
+const fn high(count: u32, line_byte: u8) -> Step {
+    Step::Clocks(count, line_byte, 0)
 }
 
-/// To word 4, past the entries; line 0 enters at 2 and line 1 at 3.
+/// To word 4, past the entries; interrupt line 0 enters at 2 and line 1 at 3.
 const AROUND: u32 = branch(ALWAYS, 3);
 const ENTRY: u32 = literal(MOV, 1, 2);
 
@@ -20,7 +20,7 @@ pub const CASES: &[Case] = &[
         what: "line 0 high beside the program's own 3BC00H",
         program: &[AROUND, LONG, ENTRY, rti(7), ldpsr(1), literal(MOV, 0, 1), NEVER, literal(MOV, 0, 2), LONG],
         base: &[],
-        steps: &[quiet(4), lines(2, 1), quiet(4)],
+        steps: &[quiet(4), high(2, 1), quiet(4)],
         published: listing(&[
             Word(2, 0, 2),
             Word(3, 4, 1),
@@ -47,7 +47,7 @@ pub const CASES: &[Case] = &[
         what: "the same with the published interrupt",
         program: &[AROUND, LONG, ENTRY, rti(7), ldpsr(1), literal(MOV, 0, 1), NEVER, literal(MOV, 0, 2), LONG],
         base: &[Switch::Irq1],
-        steps: &[quiet(4), lines(2, 1), quiet(5)],
+        steps: &[quiet(4), high(2, 1), quiet(5)],
         published: listing(&[
             Word(2, 0, 2),
             Word(3, 4, 1),
@@ -74,7 +74,7 @@ pub const CASES: &[Case] = &[
         what: "an interrupt before MUL takes 34 clocks",
         program: &[AROUND, LONG, ENTRY, LONG, ldpsr(1), literal(MOV, 0, 1), literal(MUL, 0, 3)],
         base: &[Switch::Irq1],
-        steps: &[quiet(3), lines(1, 1), quiet(35)],
+        steps: &[quiet(3), high(1, 1), quiet(35)],
         published: listing(&[Word(2, 0, 2), Word(3, 4, 1), Word(4, 5, 1), Irq(38, 6, 0, 34), Word(39, 2, 1)]),
         document01: listing(&[Word(2, 0, 2), Word(3, 4, 1), Word(4, 5, 1), Irq(6, 6, 0, 2), Word(7, 2, 1)]),
     },
@@ -93,9 +93,9 @@ pub const CASES: &[Case] = &[
             load(0, 5, 0),
         ],
         base: &[Switch::Irq1],
-        steps: &[quiet(5), lines(1, 1), Step::Clocks(4, 0, 9)],
+        steps: &[quiet(5), high(1, 1), Step::Clocks(4, 0, 9)],
         published: Expect {
-            lines: &[
+            rows: &[
                 Word(2, 0, 2),
                 Word(3, 4, 1),
                 Word(4, 5, 1),
@@ -108,7 +108,7 @@ pub const CASES: &[Case] = &[
             state: &[State::Register(15, 8)],
         },
         document01: Expect {
-            lines: &[
+            rows: &[
                 Word(2, 0, 2),
                 Word(3, 4, 1),
                 Word(4, 5, 1),
@@ -137,9 +137,9 @@ pub const CASES: &[Case] = &[
             store(0, 5, 0),
         ],
         base: &[Switch::Irq1],
-        steps: &[quiet(6), lines(1, 1), quiet(3)],
+        steps: &[quiet(6), high(1, 1), quiet(3)],
         published: Expect {
-            lines: &[
+            rows: &[
                 Word(2, 0, 2),
                 Word(3, 4, 1),
                 Word(4, 5, 1),
@@ -153,7 +153,7 @@ pub const CASES: &[Case] = &[
             state: &[State::Register(15, 9)],
         },
         document01: Expect {
-            lines: &[
+            rows: &[
                 Word(2, 0, 2),
                 Word(3, 4, 1),
                 Word(4, 5, 1),
@@ -183,14 +183,14 @@ pub const CASES: &[Case] = &[
             LONG,
         ],
         base: &[Switch::Irq1],
-        steps: &[quiet(3), lines(1, 1), quiet(5)],
+        steps: &[quiet(3), high(1, 1), quiet(5)],
         published: Expect {
-            lines: &[Word(2, 0, 2), Word(3, 4, 1), Word(4, 5, 1), Irq(6, 6, 0, 2), Word(8, 2, 2), Word(9, 8, 1)],
+            rows: &[Word(2, 0, 2), Word(3, 4, 1), Word(4, 5, 1), Irq(6, 6, 0, 2), Word(8, 2, 2), Word(9, 8, 1)],
             accesses: &[],
             state: &[State::Register(15, 6), State::Register(0, 1)],
         },
         document01: Expect {
-            lines: &[Word(2, 0, 2), Word(3, 4, 1), Word(4, 5, 1), Irq(6, 6, 0, 2), Word(7, 2, 1)],
+            rows: &[Word(2, 0, 2), Word(3, 4, 1), Word(4, 5, 1), Irq(6, 6, 0, 2), Word(7, 2, 1)],
             accesses: &[],
             state: &[State::Register(15, 6), State::Register(0, 1)],
         },
@@ -200,14 +200,14 @@ pub const CASES: &[Case] = &[
         what: "LDPSR 0 with line 0 high: status 5 and an interrupt, or status 0 and none",
         program: &[AROUND, LONG, ENTRY, LONG, ldpsr(1), ldpsr(0), LONG],
         base: &[Switch::Irq1],
-        steps: &[quiet(3), lines(1, 1), quiet(3)],
+        steps: &[quiet(3), high(1, 1), quiet(3)],
         published: Expect {
-            lines: &[Word(2, 0, 2), Word(3, 4, 1), Word(4, 5, 1), Irq(6, 6, 0, 2), Word(7, 2, 1)],
+            rows: &[Word(2, 0, 2), Word(3, 4, 1), Word(4, 5, 1), Irq(6, 6, 0, 2), Word(7, 2, 1)],
             accesses: &[],
             state: &[State::Status(5)],
         },
         document01: Expect {
-            lines: &[Word(2, 0, 2), Word(3, 4, 1), Word(4, 5, 1)],
+            rows: &[Word(2, 0, 2), Word(3, 4, 1), Word(4, 5, 1)],
             accesses: &[],
             state: &[State::Status(0)],
         },
@@ -227,14 +227,14 @@ pub const CASES: &[Case] = &[
             LONG,
         ],
         base: &[Switch::Irq1],
-        steps: &[quiet(3), lines(1, 1), quiet(3)],
+        steps: &[quiet(3), high(1, 1), quiet(3)],
         published: Expect {
-            lines: &[Word(2, 0, 2), Word(3, 4, 1), Word(4, 5, 1), Word(6, 7, 1)],
+            rows: &[Word(2, 0, 2), Word(3, 4, 1), Word(4, 5, 1), Word(6, 7, 1)],
             accesses: &[],
             state: &[State::Status(7), State::Register(0, 1), State::Register(8, 3), State::Register(15, 6)],
         },
         document01: Expect {
-            lines: &[Word(2, 0, 2), Word(3, 4, 1), Word(4, 5, 1), Irq(6, 6, 0, 2), Word(7, 2, 1)],
+            rows: &[Word(2, 0, 2), Word(3, 4, 1), Word(4, 5, 1), Irq(6, 6, 0, 2), Word(7, 2, 1)],
             accesses: &[],
             state: &[State::Status(7), State::Register(0, 1), State::Register(8, 0), State::Register(15, 6)],
         },
@@ -244,7 +244,7 @@ pub const CASES: &[Case] = &[
         what: "line 0 rises in the acknowledge clock of line 1 and takes its vector",
         program: &[AROUND, LONG, ENTRY, LONG, ldpsr(3), literal(MOV, 0, 1), literal(MOV, 0, 2), LONG],
         base: &[Switch::Irq1],
-        steps: &[quiet(3), lines(1, 2), lines(1, 3), quiet(2)],
+        steps: &[quiet(3), high(1, 2), high(1, 3), quiet(2)],
         published: listing(&[Word(2, 0, 2), Word(3, 4, 1), Word(4, 5, 1), Irq(6, 6, 0, 2), Word(7, 2, 1)]),
         document01: listing(&[Word(2, 0, 2), Word(3, 4, 1), Word(4, 5, 1), Irq(6, 6, 1, 2)]),
     },

@@ -1,6 +1,6 @@
 // Programs for the switches: each shows what a switch changes, with both expected results written out by hand.
 // Source: Part 1, for the published result. Paper: for document 01's.
-// Expected results come from the texts and from counting clocks; none was printed by the circuit.
+// Expected results come from the texts and from counting clocks; none is a printout of the circuit.
 mod access;
 mod agreed;
 mod entries;
@@ -12,11 +12,11 @@ use circuit::words::{literal, MUL};
 use circuit::{Circuit, Lister, Out, Setting, Switch, Switches};
 use std::fmt::Write;
 
-/// A line of a listing: clock, address, took; the word is the program's at that address.
+/// A row of a listing: clock, address, took; the word is the program's at that address.
 #[derive(Clone, Copy)]
-pub enum Line {
+pub enum Row {
     Word(u32, u32, u32),
-    /// An interrupt: clock, saved PC, line, took.
+    /// An interrupt: clock, saved PC, interrupt line, took.
     Irq(u32, u32, u32, u32),
 }
 
@@ -28,15 +28,15 @@ pub enum State {
     Status(u32),
 }
 
-/// What a setting must give: the listing, every device access as (clock, byte, word), and some of the state.
+/// What a setting must give: the listing, every device access as (clock, byte, word), and part of the state.
 #[derive(Clone, Copy)]
 pub struct Expect {
-    pub lines: &'static [Line],
+    pub rows: &'static [Row],
     pub accesses: &'static [(u32, u8, u32)],
     pub state: &'static [State],
 }
 
-/// Clocks with one line byte and one input word, or a reset, which begins the listing anew.
+/// Clocks with one line byte and one input word, or a reset, which restarts the listing.
 #[derive(Clone, Copy)]
 pub enum Step {
     Clocks(u32, u8, u32),
@@ -47,24 +47,24 @@ pub struct Case {
     pub switch: Switch,
     pub what: &'static str,
     pub program: &'static [u32],
-    /// Switches that stand on Published in both runs; all others but `switch` stand on Document01.
+    /// Switches that are on Published in both runs; all others but `switch` are on Document01.
     pub base: &'static [Switch],
     pub steps: &'static [Step],
     pub published: Expect,
     pub document01: Expect,
 }
 
-/// A program's last word: MUL R1 1, so long that the clocks end before it does.
+/// A program's last word: MUL R1 1, which is not finished when the clocks end.
 pub const LONG: u32 = literal(MUL, 1, 1);
 
-/// Clocks without a line and with input word 0.
+/// Clocks with line byte 0 and input word 0.
 pub const fn quiet(count: u32) -> Step {
     Step::Clocks(count, 0, 0)
 }
 
 /// Only a listing, and no device access.
-pub const fn listing(lines: &'static [Line]) -> Expect {
-    Expect { lines, accesses: &[], state: &[] }
+pub const fn listing(rows: &'static [Row]) -> Expect {
+    Expect { rows, accesses: &[], state: &[] }
 }
 
 /// Every case, in the order of the switches.
@@ -89,19 +89,19 @@ pub fn switches(case: &Case, setting: Setting) -> Switches {
 /// The text a listing must have; clocks and held clocks are those since the last reset.
 fn text(program: &[u32], steps: &[Step], expect: &Expect) -> String {
     let mut text = String::from("clock at word took\n");
-    for line in expect.lines {
+    for row in expect.rows {
         // Writing to a string does not fail.
-        let _ = match *line {
-            Line::Word(clock, at, took) => writeln!(text, "{clock} {at:03X} {:05X} {took}", program[at as usize]),
-            Line::Irq(clock, at, line, took) => writeln!(text, "{clock} {at:03X} irq{line} {took}"),
+        let _ = match *row {
+            Row::Word(clock, at, took) => writeln!(text, "{clock} {at:03X} {:05X} {took}", program[at as usize]),
+            Row::Irq(clock, at, interrupt_line, took) => writeln!(text, "{clock} {at:03X} irq{interrupt_line} {took}"),
         };
     }
     let (mut clocks, mut held) = (0, 0);
     for step in steps {
         match step {
-            Step::Clocks(count, line, _) => {
+            Step::Clocks(count, line_byte, _) => {
                 clocks += count;
-                held += if line & 4 == 0 { 0 } else { *count };
+                held += if line_byte & 4 == 0 { 0 } else { *count };
             }
             Step::Reset => (clocks, held) = (0, 0),
         }
@@ -109,15 +109,15 @@ fn text(program: &[u32], steps: &[Step], expect: &Expect) -> String {
     text + &format!("end {clocks} held {held} refills 0 writebacks 0\n")
 }
 
-/// Runs a program and says what is not as expected.
+/// Runs a program and reports what is not as expected.
 pub fn run(program: &[u32], steps: &[Step], switches: Switches, expect: &Expect) -> Result<(), String> {
     let mut lister = Lister::new(Circuit::new(switches, program, &[0; 2048]));
     let mut accesses = Vec::new();
     for step in steps {
         match *step {
-            Step::Clocks(count, line, input) => {
+            Step::Clocks(count, line_byte, input) => {
                 for _ in 0..count {
-                    let Out { byte, word } = lister.clock(line, input);
+                    let Out { byte, word } = lister.clock(line_byte, input);
                     if byte != 0 {
                         accesses.push((lister.listing.clocks as u32, byte, word));
                     }

@@ -1,7 +1,7 @@
 // Programs for the switches about results and flags: Z32, RORNZ, DIVTOP, NZ and DIVNP.
 // Source: "The data processing unit", "The Divider". Paper: operations 0-10, bench cases, misreadings.
 // A flag shows in the listing as a branch that takes 2 clocks or 1.
-use super::{listing, quiet, Case, Expect, Line::Word, State, Step};
+use super::{listing, quiet, Case, Expect, Row::Word, State, Step};
 use circuit::words::*;
 use circuit::Switch;
 
@@ -59,7 +59,7 @@ pub const CASES: &[Case] = &[
             literal(MOV, 1, 3),
         ],
         base: &[],
-        // The literal at 3 sets Z to 0 where it is carried out, so the branch at 4 is not taken in either run.
+        // The literal at 3 sets Z to 0 if it is executed, so the branch at 4 is not taken in either run.
         steps: &[quiet(7)],
         published: listing(&[
             Word(1, 0, 1),
@@ -102,12 +102,12 @@ pub const CASES: &[Case] = &[
         base: &[],
         steps: &[quiet(38)],
         published: Expect {
-            lines: &[Word(1, 0, 1), Word(2, 1, 1), Word(35, 2, 33), Word(37, 3, 2), Word(38, 5, 1)],
+            rows: &[Word(1, 0, 1), Word(2, 1, 1), Word(35, 2, 33), Word(37, 3, 2), Word(38, 5, 1)],
             accesses: &[],
             state: &[State::Register(0, 0), State::High(0)],
         },
         document01: Expect {
-            lines: &[Word(1, 0, 1), Word(2, 1, 1), Word(35, 2, 33), Word(36, 3, 1), Word(37, 4, 1), Word(38, 5, 1)],
+            rows: &[Word(1, 0, 1), Word(2, 1, 1), Word(35, 2, 33), Word(36, 3, 1), Word(37, 4, 1), Word(38, 5, 1)],
             accesses: &[],
             state: &[State::Register(0, 0x8000_0000), State::High(0)],
         },
@@ -126,12 +126,12 @@ pub const CASES: &[Case] = &[
         base: &[],
         steps: &[Step::Clocks(7, 0, 9)],
         published: Expect {
-            lines: &[Word(1, 0, 1), Word(2, 1, 1), Word(4, 2, 2), Word(5, 3, 1), Word(6, 4, 1), Word(7, 5, 1)],
+            rows: &[Word(1, 0, 1), Word(2, 1, 1), Word(4, 2, 2), Word(5, 3, 1), Word(6, 4, 1), Word(7, 5, 1)],
             accesses: &[(4, 1, 9)],
             state: &[State::Register(1, 9)],
         },
         document01: Expect {
-            lines: &[Word(1, 0, 1), Word(2, 1, 1), Word(4, 2, 2), Word(6, 3, 2), Word(7, 5, 1)],
+            rows: &[Word(1, 0, 1), Word(2, 1, 1), Word(4, 2, 2), Word(6, 3, 2), Word(7, 5, 1)],
             accesses: &[(4, 1, 9)],
             state: &[State::Register(1, 9)],
         },
@@ -143,12 +143,12 @@ pub const CASES: &[Case] = &[
         base: &[],
         steps: &[quiet(37)],
         published: Expect {
-            lines: &[Word(1, 0, 1), Word(34, 1, 33), Word(36, 2, 2), Word(37, 4, 1)],
+            rows: &[Word(1, 0, 1), Word(34, 1, 33), Word(36, 2, 2), Word(37, 4, 1)],
             accesses: &[],
             state: &[State::Register(0, 0xFFFF_FFFF), State::High(7)],
         },
         document01: Expect {
-            lines: &[Word(1, 0, 1), Word(34, 1, 33), Word(35, 2, 1), Word(36, 3, 1), Word(37, 4, 1)],
+            rows: &[Word(1, 0, 1), Word(34, 1, 33), Word(35, 2, 1), Word(36, 3, 1), Word(37, 4, 1)],
             accesses: &[],
             state: &[State::Register(0, 0), State::High(7)],
         },
@@ -167,12 +167,12 @@ pub const CASES: &[Case] = &[
         base: &[],
         steps: &[quiet(38)],
         published: Expect {
-            lines: &[Word(1, 0, 1), Word(2, 1, 1), Word(35, 2, 33), Word(37, 3, 2), Word(38, 5, 1)],
+            rows: &[Word(1, 0, 1), Word(2, 1, 1), Word(35, 2, 33), Word(37, 3, 2), Word(38, 5, 1)],
             accesses: &[],
             state: &[State::Register(0, 0xFFFF_FFFF), State::High(5)],
         },
         document01: Expect {
-            lines: &[Word(1, 0, 1), Word(2, 1, 1), Word(35, 2, 33), Word(36, 3, 1), Word(37, 4, 1), Word(38, 5, 1)],
+            rows: &[Word(1, 0, 1), Word(2, 1, 1), Word(35, 2, 33), Word(36, 3, 1), Word(37, 4, 1), Word(38, 5, 1)],
             accesses: &[],
             state: &[State::Register(0, 0), State::High(7)],
         },

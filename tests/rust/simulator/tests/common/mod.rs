@@ -1,6 +1,6 @@
-// Shared by the tests: words of the instruction set, and a bench with a record, a program and a store.
+// Shared by the tests: words of the instruction set, and a test machine (`Bench`) with a record, a program and a store.
 // Paper: "What a programmer sees" for the formats.
-// The bench sets registers and status directly, in the record, so that a test needs only the words it is about.
+// It sets registers and status directly in the record, so that a test needs only the words it is about.
 #![allow(dead_code)]
 use simulator::{clock, reset, Answer, Record};
 
@@ -67,11 +67,11 @@ impl Bench {
         Bench { record, program: program.to_vec(), store }
     }
 
-    pub fn tick(&mut self, line: u8, input: u32) -> Answer {
-        clock(&mut self.record, &self.program, &mut self.store, line, input).unwrap()
+    pub fn tick(&mut self, line_byte: u8, input: u32) -> Answer {
+        clock(&mut self.record, &self.program, &mut self.store, line_byte, input).unwrap()
     }
 
-    /// Clocks until an instruction has finished; at most 400.
+    /// Runs until an instruction has finished; at most 400 clocks.
     pub fn finish(&mut self) -> (u64, Answer) {
         for spent in 1..=400 {
             let answer = self.tick(0, 0);

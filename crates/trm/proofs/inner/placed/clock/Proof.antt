@@ -1,6 +1,6 @@
--- The proof of trm::inner::placed::clock.
+-- By cases of whether the call is refused: then nothing changes, else the contract of `one_clock` is the outcome.
 use mathlib.Core.Path.{_∙_}
-use Rattle.trm_refusals.proofs.Laws.{code-zero}
+use Rattle.trm_call_refusals.proofs.Laws.{code-zero}
 use borrow.Author.Tests.{not-true, not-false}
 use Rattle.trm_calls.specs.Promises.{clockGives}
 use borrow.Author.Needs.{needs}

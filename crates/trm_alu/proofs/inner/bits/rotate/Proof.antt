@@ -1,6 +1,4 @@
--- `rotate` gives the rotation.
--- Idea: by no place it is the word itself; else the two shifted parts have no bit in common.
--- Assumes nothing.
+-- A rotation by 0 is the word itself; otherwise the two shifted parts have no bit in common (law `ror-some`).
 use borrow.Author.Needs.{needs}
 use Rattle.trm_alu.proofs.Laws.Rotation.{ror-none, ror-some}
 use Rattle.trm_alu.proofs.inner.bits.rotate.Statement.{statement}

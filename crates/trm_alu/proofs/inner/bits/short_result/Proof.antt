@@ -1,6 +1,4 @@
--- `short_result` gives the result of an operation that takes one clock.
--- Idea: at a literal arm the definition's list computes; in the last the number is past the list.
--- Assumes nothing.
+-- One case per match arm; in the default arm the list gives its default, the rotation.
 use mathlib.Core.Path.{sym, _∙_}
 use mathlib.Core.List.{[], _∷_}
 use Prim.Native.Nat.{_≤_, zero-le}

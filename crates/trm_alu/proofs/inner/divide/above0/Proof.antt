@@ -1,6 +1,4 @@
--- `above0` is the test of the definition.
--- Idea: its two tests, in order.
--- Assumes nothing.
+-- By cases of its two tests.
 use Prim.Native.Nat.{_<_}
 use native.Mathlib.Omega.{arith}
 use borrow.Author.Tests.{lt-ltb}

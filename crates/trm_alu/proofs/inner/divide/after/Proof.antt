@@ -1,6 +1,4 @@
--- `after` gives the registers after k steps, by shifts.
--- Idea: a shift to the left by k mod 2^32 leaves the low 32 − k bits, k places up.
--- Assumes nothing.
+-- A left shift by k mod 2^32 keeps the low 32 − k bits, moved up by k (law `div-closed`).
 use Prim.Native.Nat.{_-_, _/_, _^_}
 use native.Mathlib.Nat.{div-le-self}
 use native.Mathlib.Omega.{arith}

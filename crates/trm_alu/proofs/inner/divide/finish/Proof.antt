@@ -1,6 +1,4 @@
--- `finish` gives the quotient rounded down and its remainder.
--- Idea: by A above 0 or not, the sign of B, and whether the magnitude's division is exact.
--- Assumes nothing.
+-- By cases: A above 0 or not, the sign of B, and whether the division of the magnitude is exact (Laws.Quotient).
 use mathlib.Core.Path.{_∙_, ap}
 use Prim.Native.Nat.{ℕ}
 use native.Mathlib.Nat.{le-of-lt}

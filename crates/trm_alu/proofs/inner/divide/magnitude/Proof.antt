@@ -1,6 +1,4 @@
--- `magnitude` gives |B|.
--- Idea: by the sign of B; 2^32 − B is n + 1 for B = −(n + 1), so −2^31 keeps its top bit.
--- Assumes nothing.
+-- By the sign of B: for B = −(n + 1) the difference 2^32 − B is n + 1, so −2^31 keeps its top bit.
 use Prim.Native.Nat.{_-_, _%_, _^_}
 use mathlib.Core.Path.{_≡_, _∙_}
 use native.Mathlib.Omega.{arith}

@@ -1,6 +1,4 @@
--- `start` gives the registers before the first step.
--- Idea: both are 0 for A not above 0; else no bit of |B| is taken yet.
--- Assumes nothing.
+-- Both registers are 0 for A not above 0; otherwise no bit of |B| is shifted in yet (law `div-start`).
 use Rattle.trm_alu.proofs.Laws.Division.{above0-no, above0-yes, registers-none, div-start}
 use borrow.Author.Needs.{needs}
 use Rattle.trm_alu.proofs.inner.divide.start.Statement.{statement}

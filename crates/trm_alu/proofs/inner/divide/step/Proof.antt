@@ -1,6 +1,4 @@
--- `step` gives the registers after one step more.
--- Idea: its tests on A and on the trial are those of the definition.
--- Assumes nothing.
+-- By cases of the tests on A and on the trial, which are those of the definition.
 use borrow.Author.Tests.{lt-ltb, le-ltb, not-false}
 use Rattle.trm_alu.specs.Divide.{divStep, divTrial, divRest}
 use Rattle.trm_alu.proofs.Laws.Division.{above0-no}

@@ -1,6 +1,3 @@
--- `flags_after` gives all four flags.
--- Idea: each field is what its own function gives.
--- Assumes nothing.
 use borrow.Author.Needs.{needs}
 use Rattle.trm_alu.specs.Flags.{flagsAfter}
 use Rattle.trm_alu.proofs.inner.flags.flags_after.Statement.{statement}

@@ -1,6 +1,4 @@
--- `overflow_after` gives V after an operation.
--- Idea: an arm for each number that the definition tests, and the number is none of them in the last.
--- Assumes nothing.
+-- One case per match arm; in the default arm every test of the definition fails.
 use borrow.Author.Needs.{needs}
 use borrow.Author.Tests.{ne-eqb}
 use Rattle.trm_alu.specs.Flags.{overflowAfter}

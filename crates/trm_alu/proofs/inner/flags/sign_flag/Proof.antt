@@ -1,6 +1,4 @@
--- `sign_flag` gives N of a 32-bit result.
--- Idea: the quotient by 2^31 of a word is its bit 31.
--- Assumes nothing.
+-- The quotient of a word by 2^31 is its bit 31.
 use borrow.Author.Needs.{needs}
 use Rattle.trm_alu.specs.Flags.{signFlag}
 use Rattle.trm_alu.proofs.Laws.Sums.{sign-is}

@@ -1,6 +1,3 @@
--- `zero_flag` gives Z of a 32-bit result.
--- Idea: its test is the definition's.
--- Assumes nothing.
 use borrow.Author.Tests.{eq-eqb, ne-eqb}
 use Rattle.trm_alu.specs.Flags.{zeroFlag}
 use Rattle.trm_alu.proofs.inner.flags.zero_flag.Statement.{statement}

@@ -1,6 +1,4 @@
--- `after` gives the register after k steps, and the product from 32 on.
--- Idea: `multiple` gives the register plus 2^63, by a shift for k below 32; else A's top bit takes B × 2^31 off.
--- Assumes nothing.
+-- `multiple` gives the register plus 2^63; from k = 32 on the top bit of A subtracts B × 2^31 (Laws.Product).
 use mathlib.Core.Path.{_≡_, sym, ap, _∙_}
 use Prim.Native.Nat.{ℕ, _+_, _-_, _*_, _/_, _%_, _^_, _≤_, _<_}
 use native.Mathlib.Nat.{mul-le-mul-right}
@@ -15,7 +13,7 @@ use Rattle.trm_alu.proofs.inner.multiply.after.Tie as tie
 top-shl : (a k : ℕ) → k < 32 → (a * 2 ^ (32 - k)) % 2 ^ 64 % 2 ^ 32 ≡ top a k
 top-shl a k h = omega (arith, shl-mod a k (32 - k) 32 (omega arith))
 
--- what the second call gives
+-- what the second call of `multiple` gives
 whole : (c : tie.After-multiple2)
     → let args = c .before .before .before .args in
     c .multiple2 .result + 2 ^ 31 * (args .a % 2 ^ 31) ≡ biased (args .b) * (args .a % 2 ^ 31) + 2 ^ 63

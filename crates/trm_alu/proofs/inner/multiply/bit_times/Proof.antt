@@ -1,6 +1,4 @@
--- `bit_times` gives the product of a bit and a word.
--- Idea: a bit that is not 1 is 0.
--- Assumes nothing.
+-- A bit that is not 1 is 0.
 use Prim.Native.Nat.{ℕ, _*_, _<_}
 use mathlib.Core.Path.{_≡_, sym}
 use mathlib.Core.Logic.{_≢_}

@@ -1,6 +1,4 @@
--- `multiple` gives B × t + y, plus 2^63, and its sums fit 64 bits.
--- Idea: c × t is at most (2^32 − 1) × t.
--- Assumes nothing.
+-- c × t is at most (2^32 − 1) × t, so all sums fit 64 bits.
 use Prim.Native.Nat.{_-_, _*_, _^_, _≤_}
 use native.Mathlib.Nat.{mul-le-mul-right, le-pred-of-lt}
 use native.Mathlib.Omega.{arith}

@@ -1,6 +1,4 @@
--- `step` gives the register after one step more.
--- Idea: its sums are those of the definition; a wrapping difference is the sum with 2^64 less the addend.
--- Assumes nothing.
+-- Its sums are those of the definition; a wrapping difference is the sum with 2^64 minus the addend.
 use Prim.Native.Nat.{ℕ, _*_, _%_, _^_, _≤_, _<_}
 use native.Mathlib.Nat.{mul-le-mul-right, le-of-lt}
 use native.Mathlib.Omega.{arith}

@@ -1,6 +1,4 @@
--- `upper_half` gives B × 2^31 in 64 bits.
--- Idea: it is the offset number of B × 2^31 less its offset, mod 2^64.
--- Assumes nothing.
+-- The result is the offset number of B × 2^31 minus its offset, mod 2^64.
 use mathlib.Core.Path.{sym, ap, _∙_}
 use Prim.Native.Nat.{ℕ, _*_, _^_}
 use native.Mathlib.Omega.{arith}

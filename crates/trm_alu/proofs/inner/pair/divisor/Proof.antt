@@ -1,6 +1,4 @@
--- `divisor` gives A in the remainder's place.
--- Idea: its test on A is that of the definition.
--- Assumes nothing.
+-- By cases of the test on A, which is that of the definition.
 use borrow.Author.Tests.{not-false}
 use Rattle.trm_alu.specs.Pair.{pairDivisor}
 use Rattle.trm_alu.proofs.Laws.Division.{above0-no}

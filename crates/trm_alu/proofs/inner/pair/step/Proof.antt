@@ -1,6 +1,4 @@
--- `step` gives the pair after one step more.
--- Idea: its test is that of the definition.
--- Assumes nothing.
+-- By cases of its test, which is that of the definition.
 use borrow.Author.Tests.{lt-ltb, le-ltb}
 use Rattle.trm_alu.specs.Pair.{pairStep}
 use borrow.Author.Needs.{needs}

@@ -1,6 +1,4 @@
--- `add` gives the 32-bit result of ADD.
--- Idea: the exact sum's low 32 bits are those of the sum of the words.
--- Assumes nothing.
+-- The low 32 bits of the exact sum are those of the sum of the words (law `sum-is`).
 use mathlib.Core.Path.{sym, _∙_}
 use borrow.Author.Needs.{needs}
 use Rattle.trm_alu.proofs.Laws.Sums.{sum-is}

@@ -1,6 +1,4 @@
--- `carry_of_add` gives C after ADD.
--- Idea: the exact result plus 2^32 is below 2^32 where the exact result is negative.
--- Assumes nothing.
+-- The exact result plus 2^32 is below 2^32 if and only if the exact result is negative (law `carry-is`).
 use mathlib.Core.Path.{ap, _∙_}
 use Prim.Native.Nat.{ℕ, _-_, _/_, _^_}
 use borrow.Author.Needs.{needs}

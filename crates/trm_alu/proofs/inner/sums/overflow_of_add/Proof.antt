@@ -1,6 +1,4 @@
--- `overflow_of_add` gives V after ADD.
--- Idea: the exact result plus 2^32 is within 2^31 of 2^32 where the exact result fits.
--- Assumes nothing.
+-- The exact result plus 2^32 is within 2^31 of 2^32 if and only if the exact result fits (law `overflow-is`).
 use mathlib.Core.Path.{ap, _∙_}
 use Prim.Native.Nat.{ℕ, _+_, _/_, _%_, _^_}
 use borrow.Author.Needs.{needs}

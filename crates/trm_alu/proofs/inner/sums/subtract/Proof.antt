@@ -1,6 +1,4 @@
--- `subtract` gives the 32-bit result of SUB.
--- Idea: the exact difference's low 32 bits are those of B + (2^32 − A), which wraps to the code's.
--- Assumes nothing.
+-- The low 32 bits of the exact difference are those of B + (2^32 − A) (law `difference-is`).
 use mathlib.Core.Path.{sym, _∙_}
 use Prim.Native.Nat.{_^_}
 use native.Mathlib.Nat.{le-of-lt}

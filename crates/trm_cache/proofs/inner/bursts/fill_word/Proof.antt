@@ -1,4 +1,4 @@
--- The proof of trm_cache::inner::bursts::fill_word.
+-- By cases: a wait, or one word.
 use native.Mathlib.Omega.{arith}
 use Prim.Native.Nat.{_+_, _-_, _*_}
 use borrow.Author.Tests.{lt-leb, le-leb}

@@ -1,4 +1,4 @@
--- The proof of trm_cache::inner::bursts::put_in_block.
+-- A write to the slice is a write to the store (law `part-set`).
 use native.Mathlib.Omega.{arith}
 use Prim.Native.Nat.{_+_, _-_, _*_}
 use Rattle.trm_cache.proofs.Laws.Parts.{part-set}

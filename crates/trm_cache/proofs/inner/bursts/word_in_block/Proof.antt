@@ -1,4 +1,4 @@
--- The proof of trm_cache::inner::bursts::word_in_block.
+-- A read from the slice is a read from the store (law `part-get`).
 use native.Mathlib.Omega.{arith}
 use Prim.Native.Nat.{_+_, _-_, _*_}
 use Rattle.trm_cache.proofs.Laws.Parts.{part-get}

@@ -1,4 +1,4 @@
--- The proof of trm_cache::inner::bursts::write_word.
+-- By cases: a wait, or one word.
 use Rattle.trm_cache.specs.Cache.{lineAt}
 use Rattle.trm_cache.proofs.Laws.Parts.{word-flat}
 use native.Mathlib.Omega.{arith}
@@ -11,7 +11,7 @@ use Rattle.trm_cache.proofs.inner.bursts.write_word.Tie as tie
 use Rattle.trm_cache.proofs.inner.bursts.write_word.Reads as reads
 use Rattle.trm_cache.proofs.inner.bursts.write_word.Lts as lts
 use Rattle.trm_cache.proofs.inner.bursts.put_in_block.Reads as put-in-block-reads
-use Rattle.trm_cache.proofs.inner.lines.line_block.Reads as line-block-reads
+use Rattle.trm_cache.proofs.inner.cache_lines.line_block.Reads as line-block-reads
 
 returns : tie.Need-returns
 unfolding writeWord

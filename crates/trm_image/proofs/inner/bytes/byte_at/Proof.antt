@@ -1,4 +1,3 @@
--- The proof of trm_image::inner::bytes::byte_at.
 use lib.ListN.{List·getD-eq-default}
 use mathlib.Core.Path.{sym}
 use borrow.Author.Needs.{needs}

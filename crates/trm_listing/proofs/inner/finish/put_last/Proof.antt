@@ -1,8 +1,8 @@
--- The proof of trm_listing::inner::finish::put_last.
+-- By cases: clocks are left, there is no room, or the last row is written.
 use mathlib.Core.Path.{sym}
 use native.Mathlib.Omega.{arith}
 use Rattle.trm_laws.proofs.Tests.{clash}
-use Rattle.trm_text.proofs.Laws.Wrote.{wrote-none}
+use Rattle.trm_list_text.proofs.Laws.Wrote.{wrote-none}
 use borrow.Author.Needs.{needs}
 use Rattle.trm_listing.proofs.inner.finish.put_last.Statement.{statement}
 use Rattle.trm_listing.proofs.inner.finish.put_last.Tie as tie

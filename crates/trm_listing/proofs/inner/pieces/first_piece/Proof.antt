@@ -1,4 +1,4 @@
--- The proof of trm_listing::inner::pieces::first_piece.
+-- By cases of whether the image is refused.
 use Prim.Native.Nat.{_/_}
 use mathlib.Core.Path.{_≡_, refl, sym, ap, _∙_}
 use mathlib.Core.Bool.{false}

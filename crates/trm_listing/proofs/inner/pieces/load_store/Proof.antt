@@ -1,4 +1,4 @@
--- The proof of trm_listing::inner::pieces::load_store.
+-- By cases of whether the second record is of kind 2.
 use mathlib.Core.Path.{sym, ap, _∙_}
 use native.Mathlib.Omega.{arith}
 use Prim.Native.Nat.{_+_}

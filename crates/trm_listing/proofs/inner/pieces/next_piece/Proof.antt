@@ -1,4 +1,4 @@
--- The proof of trm_listing::inner::pieces::next_piece.
+-- By cases of whether the listing is over; else the contracts of `list_runs` and `put_last` in sequence.
 use Rattle.trm_listing.specs.Rest.{pinsLeft}
 use Rattle.trm_listing.proofs.Laws.Piece.{stands-in, stands-fresh, piece-text, piece-goes}
 use mathlib.Core.Path.{refl, sym, _∙_}

@@ -1,5 +1,4 @@
--- The proof of trm_listing::inner::runs::list_runs.
--- Invariant: the listing has gone along, and clocks of a run are left only where the buffer is full. The measure is the bytes left.
+-- Invariant: `Along` from the first run to here, and clocks of a run are left only if the buffer is full. Measure: the image bytes left.
 use mathlib.Core.Path.{ap, _∙_}
 use Rattle.trm_listing.specs.declared.inner.runs.Place.{Place}
 use mathlib.Core.Logic.{_≢_}
@@ -7,7 +6,7 @@ use native.Mathlib.Omega.{arith}
 use Prim.Native.Nat.{_+_, _-_, _<_}
 use lib.ListN.{length}
 use Rattle.trm_cache.specs.Cache.{cache}
-use Rattle.trm_lines.specs.Onward.{lentOf}
+use Rattle.trm_list_rows.specs.Onward.{lentOf}
 use Rattle.trm_image.proofs.Laws.Runs.{runs-next}
 use Rattle.trm_listing.specs.Rest.{Along}
 use Rattle.trm_listing.proofs.Laws.Along.{along-none, along-then, along-next}

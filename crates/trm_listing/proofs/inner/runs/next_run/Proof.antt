@@ -1,4 +1,3 @@
--- The proof of trm_listing::inner::runs::next_run.
 use Prim.Native.Nat.{_+_}
 use native.Mathlib.Omega.{arith}
 use Rattle.trm_image.proofs.Laws.Parts.{payload-byte, payload-word}

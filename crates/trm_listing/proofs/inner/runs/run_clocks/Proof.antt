@@ -1,9 +1,9 @@
--- The proof of trm_listing::inner::runs::run_clocks.
+-- By cases of whether the run is held.
 use mathlib.Core.Path.{refl}
 use native.Mathlib.Omega.{arith}
 use mathlib.Core.Path.{sym, _∙_}
 use Rattle.trm_core.proofs.Laws.Rule.{counts-from}
-use Rattle.trm_lines.proofs.Laws.Gone.{good-able}
+use Rattle.trm_list_rows.proofs.Laws.Gone.{good-able}
 use Rattle.trm_listing.proofs.Laws.Held.{onward-held}
 use borrow.Author.Needs.{needs}
 use Rattle.trm_listing.proofs.inner.runs.run_clocks.Statement.{statement}

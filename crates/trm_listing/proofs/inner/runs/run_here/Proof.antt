@@ -1,4 +1,3 @@
--- The proof of trm_listing::inner::runs::run_here.
 use mathlib.Core.Path.{refl}
 use Rattle.trm_listing.proofs.Laws.Along.{along-clocks}
 use borrow.Author.Needs.{needs}

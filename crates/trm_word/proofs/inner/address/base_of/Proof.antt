@@ -1,6 +1,4 @@
--- The base of an address.
--- Two ways out, by s = 7.
--- Assumes nothing.
+-- By cases of s = 7.
 use mathlib.Core.Path.{_≡_}
 use native.Mathlib.Omega.{arith}
 use borrow.Author.Tests.{eq-eqb, ne-eqb}

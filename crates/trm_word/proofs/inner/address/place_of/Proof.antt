@@ -1,6 +1,4 @@
--- What an address names.
 -- A legal length is a power of two, so the mask is the remainder (Laws.Length).
--- Assumes nothing.
 use Prim.Native.Nat.{_<_}
 use borrow.Author.Tests.{lt-ltb, le-ltb}
 use native.Mathlib.Omega.{arith}

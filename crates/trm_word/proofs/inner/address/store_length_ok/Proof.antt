@@ -1,6 +1,4 @@
--- Whether a length is legal.
--- Each arm computes; past the ten arms every test of the list fails.
--- Assumes nothing.
+-- One case per match arm; in the default arm every test of the list fails.
 use borrow.Author.Tests.{ne-eqb}
 use Rattle.trm_word.specs.Address.{storeLengthOk}
 use Rattle.trm_word.proofs.inner.address.store_length_ok.Statement.{statement}

@@ -1,6 +1,4 @@
--- The sixteen conditions.
--- Each arm computes; past 14 the list gives its default, never.
--- Assumes nothing.
+-- One case per match arm; in the default arm the list gives its default, never.
 use Rattle.trm_word.specs.Condition.{conditions, isSet}
 use mathlib.Core.Bool.{false}
 use Rattle.trm_laws.proofs.Match.{past}

@@ -1,6 +1,0 @@
-// `going` is where a run stands; `ahead` and `serial` go on in a phase.
-// `g` is where the run stands, by value; the arrays are lent in the order regs, full, dirty, block, words; `w` is the word at PC.
-// A function here may have a `requires`. Each has one caller or is small, so that all of it is inlined.
-pub mod ahead;
-pub mod going;
-pub mod serial;

@@ -1,0 +1,2 @@
+-- Laws of what an instruction reads: device numbers.
+pub mod Device

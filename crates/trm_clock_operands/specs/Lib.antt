@@ -1,0 +1,1 @@
+-- No definitions here: the contracts of this crate cite those of trm_word, trm_reference and trm_core.

@@ -1,4 +1,0 @@
--- The proofs of a word carried out: its laws, and a file for each function.
--- Nothing here need be read to know what is claimed.
--- Assumes nothing.
-pub mod Laws

@@ -1,4 +1,0 @@
-// The word carried out, shared with the engine; a function here may have a `requires`.
-// `c` are the record's scalars, `regs` the two banks of registers, `w` the word at PC, `x` the word that LD loads.
-// What each gives is a definition of trm_reference, over what is seen of `c` and `regs`.
-pub mod words;

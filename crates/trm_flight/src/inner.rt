@@ -1,4 +1,0 @@
-// A clock of a word in flight, phase by phase.
-// `c` are the scalars, by value; the arrays are lent in the order regs, full, dirty, block, words; `w` is the word at PC.
-// A function here may have a `requires`: parts of the record rule. Each has one caller or is small, so that all of it is inlined.
-pub mod flight;

@@ -1,4 +1,0 @@
--- Look, copy and watch in definitions: what each gives on every input.
--- Paper: "A look gives one word of data memory .. a copy fills a buffer with all of it"; "the watch names a clock, from 0, ..".
--- Assumes nothing.
-pub mod Promises

@@ -1,3 +1,0 @@
--- No definitions of its own: every contract cites those of the crates below.
--- Paper: as those say.
--- Assumes nothing.

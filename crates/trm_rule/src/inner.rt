@@ -1,5 +1,0 @@
-// What the crates above share of the rule; a function here may have a `requires`.
-// `c` are the record's scalars, `regs` its registers, `full`, `dirty`, `block` and `words` its cache, `w` the word at PC,
-// `n` the store's length. What each gives is a definition of trm_reference or trm_core.
-pub mod access;
-pub mod record;

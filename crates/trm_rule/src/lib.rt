@@ -1,4 +1,0 @@
-// The record rule in code: whether row 5 of the table accepts a record.
-// Paper: "The record holds phase and count: ..", row 5 of "Where calls are turned down".
-// Every function is shared with the crates above and stands in `inner`.
-pub mod inner;

@@ -1,0 +1,81 @@
+-- The run starts in `begun`, `all_turns` takes it through all line bytes, and reached-end gives `runOf`.
+use mathlib.Core.Path.{sym, _∙_}
+use Rattle.trm_run_phases.proofs.Laws.Reached.{reached-end}
+use Rattle.trm_run_machine.proofs.Laws.Accepted.{run-passed}
+use Rattle.trm_run_machine.proofs.Laws.Begun.{begun}
+use Rattle.trm_run_machine.proofs.Laws.Shape.{shaped-by-type}
+use borrow.Author.Needs.{needs}
+use Rattle.trm_run_machine.proofs.machine.Machine.run.Statement.{statement}
+use Rattle.trm_run_machine.proofs.machine.Machine.run.Tie as tie
+
+clear-bytes-requires : tie.Need-clear-bytes-requires
+clear-bytes-requires c κs = search needs
+
+clear-words-requires : tie.Need-clear-words-requires
+clear-words-requires c κs = search needs
+
+all-turns-requires : tie.Need-all-turns-requires
+all-turns-requires c κs =
+    let c10 = c .before .before .before .before .before .before .before .before .before .before in
+    let c20 = c10 .before .before .before .before .before .before .before .before .before .before in
+    record {
+      from = _;
+      so = begun _ _ _ _ _ _ _ _ (c20 .before .before .before .before .before .before .before .before .pre)
+          (shaped-by-type _ _ (c20 .before .before .before .before .before .before .before .before .good .0))
+          (c10 .before .before .before
+          .before .clear-bytes .ensures) (c10 .clear-words .ensures);
+    }
+
+same-length : tie.Need-same-length
+same-length c =
+    let c10 = c .before .before .before .before .before .before .before .before .before .before in
+    let c20 = c10 .before .before .before .before .before .before .before .before .before .before in
+    let c30 = c20 .before .before .before .before .before .before .before .before .before .before in
+    c .before .before .before .before .before .before .before .all-turns .ensures .0 _ (begun _ _ _ _ _ _ _ _ (c30 .before .before
+    .before .before .before .before .pre) (shaped-by-type _ _ (c30 .before .before .before .before .before .before .good .0)) (c20
+    .before .before .clear-bytes .ensures) (c10 .before .before .before .before .before .before .before .before .clear-words
+    .ensures)) .long
+
+same-length-2 : tie.Need-same-length-2
+same-length-2 c =
+    let c10 = c .before .before .before .before .before .before .before .before .before .before in
+    let c20 = c10 .before .before .before .before .before .before .before .before .before .before in
+    let c30 = c20 .before .before .before .before .before .before .before .before .before .before in
+    let q = run-passed _ _ _ _ _ _ _ (c30 .before .before .before .before .before .before .pre) in
+    c .before .before .before .before .before .before .before .all-turns .ensures .0 _ (begun _ _ _ _ _ _ _ _ (c30 .before .before
+    .before .before .before .before .pre) (shaped-by-type _ _ (c30 .before .before .before .before .before .before .good .0)) (c20
+    .before .before .clear-bytes .ensures) (c10 .before .before .before .before .before .before .before .before .clear-words
+    .ensures)) .wide ∙ sym (q .1 .wide)
+
+same-length-3 : tie.Need-same-length-3
+same-length-3 c =
+    let c10 = c .before .before .before .before .before .before .before .before .before .before in
+    let c20 = c10 .before .before .before .before .before .before .before .before .before .before in
+    let c30 = c20 .before .before .before .before .before .before .before .before .before .before in
+    let q = run-passed _ _ _ _ _ _ _ (c30 .before .before .before .before .before .before .pre) in
+    c .before .before .before .before .before .before .before .all-turns .ensures .0 _ (begun _ _ _ _ _ _ _ _ (c30 .before .before
+    .before .before .before .before .pre) (shaped-by-type _ _ (c30 .before .before .before .before .before .before .good .0)) (c20
+    .before .before .clear-bytes .ensures) (c10 .before .before .before .before .before .before .before .before .clear-words
+    .ensures)) .broad ∙ sym (q .1 .broad)
+
+returns : tie.Need-returns
+returns c =
+    let c10 = c .before .before .before .before .before .before .before .before .before .before in
+    let c20 = c10 .before .before .before .before .before .before .before .before .before .before in
+    let c30 = c20 .before .before .before .before .before .before .before .before .before .before in
+    reached-end _ _ _ _ _ _ _ (c .before .before .before .before .before .before .before .all-turns .ensures .0 _ (begun _ _ _ _ _ _
+    _ _ (c30 .before .before .before .before .before .before .pre) (shaped-by-type _ _ (c30 .before .before .before .before .before
+    .before .good .0)) (c20 .before .before .clear-bytes .ensures) (c10 .before .before .before .before .before .before .before
+    .before .clear-words .ensures))) (c .before .before .before .before .before .before .before .all-turns .ensures .1)
+
+pub run-spec : {M : Type 1} → statement M
+run-spec =
+    tie.close
+    (tie.spec
+    clear-bytes-requires
+    clear-words-requires
+    all-turns-requires
+    same-length
+    same-length-2
+    same-length-3
+    returns)

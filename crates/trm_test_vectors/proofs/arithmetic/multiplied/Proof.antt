@@ -1,0 +1,46 @@
+-- Safety and termination only. Invariant: the steps left are at most those asked for. Measure: the steps left.
+use borrow.Author.Needs.{needs}
+use Prim.Native.Nat.{_≤_}
+use Rattle.trm_test_vectors.proofs.arithmetic.multiplied.Statement.{statement}
+use Rattle.trm_test_vectors.proofs.arithmetic.multiplied.Tie as tie
+
+abbrev Inv-loop : tie.InvT-loop
+Inv-loop a b steps acc₀ left₀ acc left = left ≤ steps
+
+abbrev μ-loop : tie.MeasureT-loop
+μ-loop a b steps acc₀ left₀ acc left = left
+
+loop-holds : tie.Need-loop-holds Inv-loop μ-loop
+loop-holds c = search needs
+
+sub-step : tie.Need-sub-step Inv-loop μ-loop
+sub-step c = search needs
+
+step-requires : tie.Need-step-requires Inv-loop μ-loop
+step-requires c κs = search needs
+
+sub-left : tie.Need-sub-left Inv-loop μ-loop
+sub-left c = search needs
+
+loop-less : tie.Need-loop-less Inv-loop μ-loop
+loop-less c = search needs
+
+loop-again : tie.Need-loop-again Inv-loop μ-loop
+loop-again c = search needs
+
+returns : tie.Need-returns Inv-loop μ-loop
+returns c = search needs
+
+pub multiplied-spec : {M : Type 1} → statement M
+multiplied-spec =
+    tie.close
+    (tie.spec
+    Inv-loop
+    μ-loop
+    loop-holds
+    sub-step
+    step-requires
+    sub-left
+    loop-less
+    loop-again
+    returns)

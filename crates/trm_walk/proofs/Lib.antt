@@ -1,3 +1,0 @@
--- The proofs of this crate; it has no laws of its own.
--- Nothing here need be read to know what is claimed.
--- Assumes nothing.
