@@ -40,7 +40,7 @@ enum {
     TRM_REFUSED_PROGRAM = 3,     /* program: no word, over 4,096 words, or a word above 3FFFFH; also a word to decode above 3FFFFH */
     TRM_REFUSED_STORE = 4,       /* store: its length is not a power of two from 64 to 32,768, or not the length at reset */
     TRM_REFUSED_RECORD = 5,      /* record: a field out of range, or fields that contradict each other or the word at PC */
-    TRM_REFUSED_LINE_BYTES = 6,       /* line bytes: not as many as input words, over 65,536, or one above 7 */
+    TRM_REFUSED_LINE_BYTES = 6,  /* line bytes: not as many as input words, over 65,536, or one above 7 */
     TRM_REFUSED_BUFFERS = 7,     /* buffers: not as long as the run, or for a copy not as long as the store */
     TRM_REFUSED_CLOCKS = 8,      /* the clock count would exceed 4,294,967,295 */
     TRM_REFUSED_ADDRESS = 9,     /* a look at an address above FFBFH, a watch of a device above 63 */
