@@ -36,7 +36,7 @@ module _ (G : Geometry) (p : List ℕ) where
   closes b w e h = rw e h
 
   -- every prefix of an audited log leaves the book balanced
-  prefixes : (b : Book) (es rest : List LogEntry) → Balanced G p b → Audited G p b (es ++ rest) → Balanced G p (bookAt G p b es)
+  pub prefixes : (b : Book) (es rest : List LogEntry) → Balanced G p b → Audited G p b (es ++ rest) → Balanced G p (bookAt G p b es)
   unfolding Audited bookAt
   prefixes b [] rest h a = h
   prefixes b (started w ∷ es) rest h a = absurd a
@@ -44,7 +44,7 @@ module _ (G : Geometry) (p : List ℕ) where
   prefixes b (ended w c ∷ es) rest h a = prefixes (closed b w) es rest (closes b w (a .0) h) (a .1)
 
   -- an audited log shows every device access of its instructions, once each, in order
-  audited-devices : (b : Book) (es : List LogEntry) → Audited G p b es → deviceAnswers (answersIn es) ≡ accessesIn G p b es
+  pub audited-devices : (b : Book) (es : List LogEntry) → Audited G p b es → deviceAnswers (answersIn es) ≡ accessesIn G p b es
   unfolding Audited Does isFinish answersIn deviceAnswers accessesIn
   audited-devices b [] h = refl
   audited-devices b (started w ∷ es) h = absurd h

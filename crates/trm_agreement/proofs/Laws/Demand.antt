@@ -46,7 +46,7 @@ fails-second true = refl
 fails-second false = refl
 
 -- a record that no store fits: row 3, or else row 4
-no-store : (m : Machine) (s : List ℕ) → recordOf m ≡ resetOf paperGeometry [] → storeOk (recordOf m) s ≡ false
+pub no-store : (m : Machine) (s : List ℕ) → recordOf m ≡ resetOf paperGeometry [] → storeOk (recordOf m) s ≡ false
 unfolding storeOk resetOf
 no-store m s e = rw e (go (eqb (length s) 0) refl)
   where

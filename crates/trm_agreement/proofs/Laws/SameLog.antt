@@ -3,7 +3,7 @@
 use Prim.Native.Nat.{ℕ, suc, _+_, _-_, _≤_, _<_}
 use mathlib.Core.Path.{_≡_, refl, sym, _∙_}
 use mathlib.Core.Bool.{Bool, true, false, cond, not, _||_}
-use mathlib.Core.List.{List, []}
+use mathlib.Core.List.{List, [], _∷_}
 use lib.ListN.{length, getD}
 use lib.Dec.{eqb, ltb}
 use borrow.Author.Tests.{eqb-true, eq-eqb, ltb-false}
@@ -30,6 +30,7 @@ use Rattle.trm_core.proofs.Laws.Reset.{zeros, first, first-line, first-words, f
 use Rattle.trm_cache.proofs.Laws.Cache.{Sane, empty-view}
 use Rattle.trm_cache.proofs.Laws.Dirty.{copy-is}
 use Rattle.trm_agreement.specs.Log.{logOf}
+use Rattle.trm_agreement.specs.Demand.{All}
 use Rattle.trm_agreement.specs.Calls.{Call, clockCall, runCall, feed, answer, recordSeen, recordCode, recordEngine, referenceSeen}
 use Rattle.trm_agreement.specs.Calls.{ownRows, referenceCode, referenceEngine}
 use Rattle.trm_agreement.proofs.Laws.Simulate.{Together, log-alike}
@@ -56,13 +57,13 @@ clock-next G p q pins = chosen Next (stalled (pins .lineByte)) refl
 
 module _ (G : Geometry) (p : List ℕ) where
   -- in step, with room for n more clocks
-  record Tied (n : ℕ) (x : Lent) (q : Reference) : Type 0 where
-    extra : Extra
-    plain : q ≡ plainOf (x .machine) extra
-    related : Related G p (x .machine) (x .store) extra
-    room : q .clocks + n ≤ 4294967295
+  pub record Tied (n : ℕ) (x : Lent) (q : Reference) : Type 0 where
+    pub extra : Extra
+    pub plain : q ≡ plainOf (x .machine) extra
+    pub related : Related G p (x .machine) (x .store) extra
+    pub room : q .clocks + n ≤ 4294967295
 
-  tied-step : (n : ℕ) (x : Lent) (q : Reference) (pins : Pins) → Tied (suc n) x q
+  pub tied-step : (n : ℕ) (x : Lent) (q : Reference) (pins : Pins) → Tied (suc n) x q
       → Together (Tied n) (clockOf G p x pins) (referenceClock G p q pins)
   tied-step n x q pins t = rw (t .plain) (go (clock-step G p (x .machine) (x .store) (t .extra) pins (t .related)))
     where
@@ -81,7 +82,7 @@ module _ (G : Geometry) (p : List ℕ) where
         out = a .out;
       }
 
-  tied-seen : (n : ℕ) (x : Lent) (q : Reference) → Tied n x q → recordSeen G x ≡ referenceSeen q
+  pub tied-seen : (n : ℕ) (x : Lent) (q : Reference) → Tied n x q → recordSeen G x ≡ referenceSeen q
   unfolding recordSeen referenceSeen
   tied-seen n x q t = rw (
     t .plain,
@@ -93,7 +94,7 @@ module _ (G : Geometry) (p : List ℕ) where
       c = t .related .common
 
   -- a record in step passes rows 4 and 5
-  rows-are : (x : Lent) (q : Reference) (rest : ℕ) → Tied 0 x q
+  pub rows-are : (x : Lent) (q : Reference) (rest : ℕ) → Tied 0 x q
       → recordRows G p (x .machine) (x .store) rest ≡ cond (not (programOk p)) 3 rest
   unfolding recordRows storeOk
   rows-are x q rest t = rw (c .size, c .legal, eq-eqb (x .machine .scalars .size) (x .machine .scalars .size) refl, fifth)
@@ -114,7 +115,7 @@ module _ (G : Geometry) (p : List ℕ) where
       rw (t .plain) (rows-are x q (runRows (x .machine .scalars .counts .clocks) lineBytes inputs bytes words) t)
 
   -- a call that passes row 8 has room for its clocks
-  count-room : (k n : ℕ) → countRow k n ≡ 0 → k + n ≤ 4294967295
+  pub count-room : (k n : ℕ) → countRow k n ≡ 0 → k + n ≤ 4294967295
   unfolding countRow
   count-room k n = go (ltb 4294967295 (k + n)) refl
     where
@@ -150,6 +151,12 @@ module _ (G : Geometry) (p : List ℕ) where
       go : (b : Bool) → cond (not b) 3 (ownRows (q .clocks) c) ≡ 0 → q .clocks + length (feed c) ≤ 4294967295
       go true y = own-room (q .clocks) c y
       go false y = absurd (omega arith)
+
+-- a clock may be given anything
+any-input : (is : List Pins) → All (λ i. Unit {0}) is
+unfolding All
+any-input [] = tt
+any-input (i ∷ is) = (tt, any-input is)
 
 module _ (G : Geometry) (p s : List ℕ) where
   tied-reset : Fit G (length s) → storeLengthOk (length s) ≡ true
@@ -192,13 +199,13 @@ module _ (G : Geometry) (p s : List ℕ) where
       through a h = unfold view in (empty-view G (g .wpos) s (lineAt G (first G) (lineOf G (blockOf G a))) a
           (first-line G (lineOf G (blockOf G a)) (any-line-in G (g .lpos) (blockOf G a)) .0))
 
-  reset-tied : geometryOk G ≡ true → resetRefusal s ≡ 0 → Tied G p 0 (record { machine = resetOf G s; store = s }) (referenceReset s)
+  pub reset-tied : geometryOk G ≡ true → resetRefusal s ≡ 0 → Tied G p 0 (record { machine = resetOf G s; store = s }) (referenceReset s)
   reset-tied e r = tied-reset (fit G (length s) e (reset-legal s r)) (reset-legal s r)
 
   pub same-log : (cs : List Call) → geometryOk G ≡ true → resetRefusal s ≡ 0
       → logOf feed answer (recordEngine G p) (record { machine = resetOf G s; store = s }) cs
       ≡ logOf feed answer (referenceEngine G p) (referenceReset s) cs
   unfolding recordEngine referenceEngine
-  same-log cs e r = log-alike feed answer (recordEngine G p) (referenceEngine G p) (Tied G p) (tied-step G p) (tied-seen G p)
-      (tied-code G p)
+  same-log cs e r = log-alike feed answer (recordEngine G p) (referenceEngine G p) (Tied G p) (λ i. Unit {0}) (λ c. any-input (feed c))
+      (λ n x q i f t. tied-step G p n x q i t) (tied-seen G p) (tied-code G p)
       (tied-room G p) (record { machine = resetOf G s; store = s }) (referenceReset s) cs (reset-tied e r)

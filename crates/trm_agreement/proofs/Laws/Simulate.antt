@@ -1,6 +1,6 @@
 -- Two machines in step give the same log: the induction over a list of calls, once for any two machines.
 -- Idea: a relation that every clock keeps and under which what is seen and the refusal numbers agree; R n has room for n more clocks, and
--- a call that is not refused has room for its own.
+-- a call that is not refused has room for its own. What a clock may be given (`Fine`) holds of all that a call gives.
 use Prim.Native.Nat.{ℕ, suc}
 use mathlib.Core.Path.{_≡_, refl, ap, ap₂}
 use mathlib.Core.Bool.{Bool, true, false, cond}
@@ -10,6 +10,7 @@ use lib.Dec.{eqb}
 use borrow.Author.Tests.{eqb-true}
 use Rattle.trm_reference.specs.Trace.{After, clocks, endOf, outsOf}
 use Rattle.trm_agreement.specs.Log.{Engine, started, ended, clocksOf, entries, calls, logOf}
+use Rattle.trm_agreement.specs.Demand.{All}
 
 -- two clocks that agree
 pub record Together {S S′ O : Type 0} (R : S → S′ → Type 0) (t : After S O) (u : After S′ O) : Type 0 where
@@ -17,8 +18,9 @@ pub record Together {S S′ O : Type 0} (R : S → S′ → Type 0) (t : After S
   pub out : t .out ≡ u .out
 
 module _ {S S′ I O W C A : Type 0} (feed : C → List I) (answer : ℕ → C → List O → A)
-    (E : Engine S I O W C) (E′ : Engine S′ I O W C) (R : ℕ → S → S′ → Type 0)
-    (step : (n : ℕ) (x : S) (y : S′) (i : I) → R (suc n) x y → Together (R n) (E .step x i) (E′ .step y i))
+    (E : Engine S I O W C) (E′ : Engine S′ I O W C) (R : ℕ → S → S′ → Type 0) (Fine : I → Type 0)
+    (fine : (c : C) → All Fine (feed c))
+    (step : (n : ℕ) (x : S) (y : S′) (i : I) → Fine i → R (suc n) x y → Together (R n) (E .step x i) (E′ .step y i))
     (seen : (n : ℕ) (x : S) (y : S′) → R n x y → E .seen x ≡ E′ .seen y)
     (code : (x : S) (y : S′) (c : C) → R 0 x y → E .code x c ≡ E′ .code y c)
     (room : (x : S) (y : S′) (c : C) → R 0 x y → E′ .code y c ≡ 0 → R (length (feed c)) x y) where
@@ -45,11 +47,12 @@ module _ {S S′ I O W C A : Type 0} (feed : C → List I) (answer : ℕ → C �
       log [] = refl
       log (i ∷ is) = ap₂ _∷_ (rw (seen n (t .state) (u .state) (g .state), g .out)) (a .log is)
 
-  clocks-alike : (x : S) (y : S′) (is : List I) → R (length is) x y → Alike x y (clocks (E .step) x is) (clocks (E′ .step) y is)
-  unfolding clocks
-  clocks-alike x y [] r = none x y r
-  clocks-alike x y (i ∷ is) r = more (length is) x y _ _ _ _ (step (length is) x y i r)
-      (clocks-alike (E .step x i .state) (E′ .step y i .state) is (step (length is) x y i r .state))
+  clocks-alike : (x : S) (y : S′) (is : List I) → All Fine is → R (length is) x y
+      → Alike x y (clocks (E .step) x is) (clocks (E′ .step) y is)
+  unfolding clocks All
+  clocks-alike x y [] f r = none x y r
+  clocks-alike x y (i ∷ is) f r = more (length is) x y _ _ _ _ (step (length is) x y i (f .0) r)
+      (clocks-alike (E .step x i .state) (E′ .step y i .state) is (f .1) (step (length is) x y i (f .0) r .state))
 
   call-alike : (x : S) (y : S′) (c : C) → R 0 x y → Alike x y (clocksOf feed answer E x c) (clocksOf feed answer E′ y c)
   unfolding clocksOf
@@ -57,7 +60,7 @@ module _ {S S′ I O W C A : Type 0} (feed : C → List I) (answer : ℕ → C �
     where
       go : (b : Bool) → eqb (E′ .code y c) 0 ≡ b
           → Alike x y (cond b (clocks (E .step) x (feed c)) []) (cond b (clocks (E′ .step) y (feed c)) [])
-      go true e = clocks-alike x y (feed c) (room x y c r (eqb-true (E′ .code y c) 0 e))
+      go true e = clocks-alike x y (feed c) (fine c) (room x y c r (eqb-true (E′ .code y c) 0 e))
       go false e = none x y r
 
   calls-alike : (x : S) (y : S′) (cs : List C) → R 0 x y → calls feed answer E x cs ≡ calls feed answer E′ y cs
