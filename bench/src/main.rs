@@ -1,6 +1,7 @@
-// The library against the independent simulator in one process: runs, single clocks, looks, and the early exit.
+// The library against the independent simulator in one process: runs, single clocks, looks, the early exit, and the serial board.
 // Paper: nothing; what is measured and how is in docs/PERFORMANCE.md.
 // Called: bench [TURNS]. The two sides run in turn, and the best time counts; a ratio below 1 means that the library is faster.
+mod board;
 mod loads;
 mod words;
 
@@ -158,4 +159,5 @@ fn main() {
     }
     looks(turns);
     early_exit(turns);
+    board::board(turns);
 }

@@ -25,3 +25,6 @@ pub fn store(d: u32, s: u32, offset: u32) -> u32 {
 pub fn branch(condition: u32, offset: i32) -> u32 {
     14 << 14 | condition << 10 | (offset as u32 & 1023)
 }
+
+/// RTI R7.
+pub const RETURN: u32 = 11 << 14 | 1 << 10 | 1 << 8 | 7;

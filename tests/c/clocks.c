@@ -15,12 +15,6 @@ typedef struct met {
     uint64_t refills, writebacks;
 } met;
 
-static uint32_t word_of(uint32_t form, uint32_t operation, uint32_t condition, uint32_t d, uint32_t s, uint32_t value)
-{
-    trm_instruction i = {form, operation, condition, d, s, value};
-    return trm_encode(i).word;
-}
-
 /* Both interrupts, MUL, DIV, loads and stores that share a cache line, a device, the cache on, and off if the device's word is not
  * negative. */
 static void write_program(uint32_t *p)

@@ -287,6 +287,12 @@ int main(void)
     test_words();
     test_images();
     test_clocks();
+    test_board_edges();
+    test_board_limits();
+    test_board_clocks();
+    test_board_devices();
+    test_board_line();
+    test_board_joined();
     printf("%u passed, %u failed\n", passed, failed);
     return failed ? 1 : 0;
 }

@@ -19,6 +19,12 @@ void chance_bytes(void *to, size_t bytes);
 
 int all_zero(const void *p, size_t bytes);
 
+/* Memory; the tests end without it. */
+void *room(size_t bytes);
+
+/* A program word, by the fields of its instruction. */
+uint32_t word_of(uint32_t form, uint32_t operation, uint32_t condition, uint32_t d, uint32_t s, uint32_t value);
+
 /* The arguments of the calls that take a record. All that is lent is in `piece`; `copy` has room for a copy of it. */
 typedef struct given {
     void *piece, *copy;
@@ -56,5 +62,11 @@ void test_layout(void);
 void test_words(void);
 void test_images(void);
 void test_clocks(void);
+void test_board_edges(void);
+void test_board_limits(void);
+void test_board_clocks(void);
+void test_board_devices(void);
+void test_board_line(void);
+void test_board_joined(void);
 
 #endif

@@ -42,7 +42,13 @@ int all_zero(const void *p, size_t bytes)
     return bytes == 0;
 }
 
-static void *room(size_t bytes)
+uint32_t word_of(uint32_t form, uint32_t operation, uint32_t condition, uint32_t d, uint32_t s, uint32_t value)
+{
+    trm_instruction i = {form, operation, condition, d, s, value};
+    return trm_encode(i).word;
+}
+
+void *room(size_t bytes)
 {
     void *p = malloc(bytes);
     if (!p) {

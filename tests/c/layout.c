@@ -1,5 +1,5 @@
 /*
- * Sizes and offsets of everything that trm.h declares, as x86-64 lays it out; the record has no padding.
+ * Sizes and offsets of everything that trm.h declares, as x86-64 lays it out; trm_machine and trm_board have no padding.
  * Paper: "The record holds phase and count"; the fields are those of the record in docs/DECISIONS.md, D-17 and D-52.
  * Called: by edges.c; a wrong layout does not compile.
  */
@@ -79,9 +79,39 @@ SIZE(trm_part_answer, 24);
 FIELD(trm_part_answer, number, 0, 4);
 FIELD(trm_part_answer, start, 8, 8);
 FIELD(trm_part_answer, length, 16, 8);
+SIZE(trm_serial, 48);
+FIELD(trm_serial, left, 0, 8);
+FIELD(trm_serial, sent, 8, 8);
+FIELD(trm_serial, passed, 16, 8);
+FIELD(trm_serial, bits, 24, 8);
+FIELD(trm_serial, byte, 32, 8);
+FIELD(trm_serial, ready, 40, 8);
+SIZE(trm_devices, 64);
+FIELD(trm_devices, serial, 0, 48);
+FIELD(trm_devices, tick, 48, 8);
+FIELD(trm_devices, lamps, 56, 8);
+SIZE(trm_board, 832);
+FIELD(trm_board, machine, 0, 768);
+FIELD(trm_board, devices, 768, 64);
+SIZE(trm_board_reset_answer, 840);
+FIELD(trm_board_reset_answer, board, 0, 832);
+FIELD(trm_board_reset_answer, number, 832, 4);
+SIZE(trm_board_clock_answer, 856);
+FIELD(trm_board_clock_answer, board, 0, 832);
+FIELD(trm_board_clock_answer, number, 832, 4);
+FIELD(trm_board_clock_answer, level, 836, 1);
+FIELD(trm_board_clock_answer, byte, 837, 1);
+FIELD(trm_board_clock_answer, word, 840, 4);
+FIELD(trm_board_clock_answer, finished, 848, 8);
+SIZE(trm_board_run_answer, 856);
+FIELD(trm_board_run_answer, board, 0, 832);
+FIELD(trm_board_run_answer, number, 832, 4);
+FIELD(trm_board_run_answer, used, 840, 8);
+FIELD(trm_board_run_answer, finished, 848, 8);
 
 void test_layout(void)
 {
     hold(trm_record_size() == sizeof(trm_machine), "S2.25 the record's size", trm_record_size());
+    hold(trm_board_size() == sizeof(trm_board), "A1.1 the board's size", trm_board_size());
     hold(trm_record_version() == TRM_RECORD_VERSION, "S2.25 the record's version", trm_record_version());
 }

@@ -1,11 +1,13 @@
 # Scripts for the program trm_test_vectors: the paper's bench cases on machines, and every limit of its refusals 3 to 9.
 # Called: imported by tests/vectors/make; it does nothing when run.
-# Reads: tests/vectors/bench.py and clauses.py, tests/machine/. Figures and refusal numbers of the paper are written below as numbers.
+# Reads: tests/vectors/, tests/machine/. Figures and refusal numbers of the paper are written below as numbers.
 import sys
 
 sys.dont_write_bytecode = True
+import board_scripts
 import clauses
-from bench import Script, m
+from bench import m
+from board_bench import BoardScript
 from clauses import DEVICES, LOADS, NEVER, ONES, STORES, WIDE
 from machine import branch, call, imm, jump, jump_link, ld, mov_h, reg, rti, st, status
 
@@ -424,9 +426,9 @@ PARTS = [starred_addresses, starred_cache, lengths, listing, clock_table, misrea
 
 
 def script(starred):
-    s = Script()
+    s = BoardScript()
     begin(s)
     starred_arithmetic(s, starred)
-    for part in PARTS:
+    for part in PARTS + board_scripts.PARTS:
         part(s)
     return s

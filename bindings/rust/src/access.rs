@@ -43,6 +43,12 @@ impl Access {
     }
 }
 
+/// The device accesses of a run, each with its clock, counted from 0.
+pub(crate) fn accesses<'a>(bytes: &'a [u8], words: &'a [u32]) -> impl Iterator<Item = (usize, Access)> + 'a {
+    let answers = bytes.iter().zip(words).enumerate();
+    answers.filter_map(|(clock, (&byte, &word))| Some((clock, Access::from_answer(byte, word)?)))
+}
+
 /// A clock, counted from 0, whose answer byte shows a write to the device, or `None` if there is none. If there are several, any of them.
 /// Refused: [`Refusal::Address`] for a device above 63.
 ///

@@ -7,7 +7,7 @@ use crate::raw;
 use crate::refusal::{accepted, ImageFault, Refusal};
 
 /// Checks whether an image can be run with a store of `store_words` words; returns its first fault if not. Refused: [`Refusal::Image`],
-/// [`Refusal::Kind`], [`Refusal::Program`], [`Refusal::Store`], [`Refusal::Lines`].
+/// [`Refusal::Kind`], [`Refusal::Program`], [`Refusal::Store`], [`Refusal::LineBytes`].
 pub fn check(image: &[u8], store_words: usize) -> Result<(), ImageFault> {
     let answer = raw::image_check(image, store_words);
     accepted(answer.number).map_err(|refusal| ImageFault { refusal, at: answer.at })

@@ -37,7 +37,8 @@
 //! | | |
 //! |---|---|
 //! | [`Machine`] | a machine with its program and store: clocks, runs, looks at memory, what a programmer sees |
-//! | [`Lines`], [`Access`], [`watch`] | a clock's line byte; its device access; a write to a device in a run |
+//! | [`LineByte`], [`Access`], [`watch`] | a clock's line byte; its device access; a write to a device in a run |
+//! | [`Board`], [`Given`] | a machine with a serial line, a tick, switches and lamps; what a clock of it is given |
 //! | [`decode`], [`Instruction`] | words and instructions, also as text |
 //! | [`image`] | images, as the listing program `trmlist` reads them |
 //! | [`Refusal`], [`ImageFault`] | why a call was refused |
@@ -47,7 +48,9 @@
 
 mod access;
 mod assembly;
+mod board;
 mod fields;
+mod given;
 pub mod image;
 mod instruction;
 mod line_byte;
@@ -57,6 +60,8 @@ mod refusal;
 mod state;
 
 pub use access::{watch, Access};
+pub use board::{Board, BoardClocked, BoardRan};
+pub use given::Given;
 pub use instruction::{decode, Instruction, Operand, Operation};
 pub use line_byte::LineByte;
 pub use machine::{Clocked, Machine, Ran, Totals};

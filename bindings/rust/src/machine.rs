@@ -1,7 +1,7 @@
 //! A machine that owns its program, its store and its record, and the calls on it.
 //! Paper: "Clock by clock"; "Where calls are turned down".
 //! Its record is always one that the library accepts with its program and store; a refused call changes nothing.
-use crate::access::Access;
+use crate::access::{accesses, Access};
 use crate::line_byte::LineByte;
 use crate::raw;
 use crate::refusal::{accepted, Refusal};
@@ -62,8 +62,7 @@ pub struct Ran {
 impl Ran {
     /// The device accesses, each with its clock, counted from 0.
     pub fn accesses(&self) -> impl Iterator<Item = (usize, Access)> + '_ {
-        let answers = self.bytes.iter().zip(&self.words).enumerate();
-        answers.filter_map(|(clock, (&byte, &word))| Some((clock, Access::from_answer(byte, word)?)))
+        accesses(&self.bytes, &self.words)
     }
 }
 
@@ -101,6 +100,11 @@ impl Machine {
         (self.record, self.program, self.store)
     }
 
+    /// The record, the program and the store, lent to a call on a board.
+    pub(crate) fn lent(&mut self) -> (&mut raw::Machine, &[u32], &mut [u32]) {
+        (&mut self.record, &self.program, &mut self.store)
+    }
+
     /// Resets the machine: every register and count zero, the cache empty. The store keeps its contents; what only the cache held is lost.
     pub fn reset(&mut self) {
         self.record = raw::reset(&self.store).machine;
@@ -114,7 +118,7 @@ impl Machine {
     }
 
     /// Runs one clock for each line byte, with the input word of the same index; at most 65,536.
-    /// Refused: [`Refusal::Lines`], [`Refusal::Clocks`].
+    /// Refused: [`Refusal::LineBytes`], [`Refusal::Clocks`].
     ///
     /// ```
     /// use trm::{watch, Access, Machine};
@@ -134,7 +138,7 @@ impl Machine {
     }
 
     /// Runs like [`Machine::run`], but writes the answer bytes and words to buffers as long as the run.
-    /// Refused: [`Refusal::Lines`], [`Refusal::Buffers`], [`Refusal::Clocks`]; the buffers are then unchanged.
+    /// Refused: [`Refusal::LineBytes`], [`Refusal::Buffers`], [`Refusal::Clocks`]; the buffers are then unchanged.
     pub fn run_into(
         &mut self,
         line_bytes: &[u8],

@@ -3,8 +3,12 @@
 //! In every answer `number` is 0 for an accepted call or the number of a [`Refusal`](crate::Refusal). All unsafe code is in this module.
 #![allow(unsafe_code)]
 
+mod board;
+
+pub use board::*;
+
 /// The version of the record and of this interface that this package is written for; see [`record_version`].
-pub const RECORD_VERSION: u32 = 2;
+pub const RECORD_VERSION: u32 = 3;
 
 /// Line byte: interrupt 0.
 pub const LINE_INTERRUPT_0: u8 = 1;

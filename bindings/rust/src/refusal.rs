@@ -24,9 +24,9 @@ pub enum Refusal {
     Program = 3,
     /// A store of a length that is not legal, or not the one at reset.
     Store = 4,
-    /// A record with a field out of range, or with fields that contradict each other or the word at PC.
+    /// A record with a field out of range, a board's too, or with fields that contradict each other or the word at PC.
     Record = 5,
-    /// Line bytes that are too many, not as many as the input words, or above 7.
+    /// Line bytes that are too many, not as many as the input words, or above 7; of a board its given bytes and its switches.
     LineBytes = 6,
     /// Buffers that are not as long as what is written to them.
     Buffers = 7,
@@ -72,8 +72,10 @@ impl Refusal {
             Refusal::Kind => "a kind of record is unknown, repeated or out of order, or kind 1 is missing",
             Refusal::Program => "the program has no word, over 4,096, or one above 3FFFFH",
             Refusal::Store => "the store's length is no power of two from 64 to 32,768, or other than at reset",
-            Refusal::Record => "the machine record breaks its rule",
-            Refusal::LineBytes => "line bytes are not as many as input words, over 65,536, or one is above 7",
+            Refusal::Record => "the machine record breaks its rule, or a board field is outside its range",
+            Refusal::LineBytes => {
+                "line bytes are not as many as input words or switches, over 65,536, or one is above 7"
+            }
             Refusal::Buffers => "a buffer is not as long as the run, or as the store for a copy",
             Refusal::Clocks => "the clock count would pass 4,294,967,295",
             Refusal::Address => "the address looked at is above FFBFH, or the device above 63",

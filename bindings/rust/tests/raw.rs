@@ -7,6 +7,7 @@ use trm::raw::{self, Instruction};
 #[test]
 fn the_library_has_the_record_of_this_package() {
     assert_eq!(raw::record_size(), std::mem::size_of::<raw::Machine>());
+    assert_eq!(raw::board_size(), std::mem::size_of::<raw::Board>());
     assert_eq!(raw::record_version(), raw::RECORD_VERSION);
 }
 

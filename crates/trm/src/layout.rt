@@ -1,8 +1,8 @@
-// What a C program can ask before it uses a record: its size in bytes, and the version that this library knows.
+// What a C program can ask before it uses a record or a board: their sizes in bytes, and the version that this library knows.
 // Paper: nothing; later requests change the record.
-// The size is proved equal to that of the declared type as the compiler lays it out.
+// A size is proved equal to that of the declared type as the compiler lays it out.
 ghost use mathlib.Core.Path.{_≡_};
-ghost use Rattle.trm.specs.Layout.{recordSize, recordVersion};
+ghost use Rattle.trm.specs.Layout.{recordSize, boardSize, recordVersion};
 
 #[no_mangle]
 pub extern "C" fn trm_record_size() -> usize
@@ -12,8 +12,15 @@ pub extern "C" fn trm_record_size() -> usize
 }
 
 #[no_mangle]
+pub extern "C" fn trm_board_size() -> usize
+    ensures { λ r. ⌜ r ≡ boardSize ⌝ }
+{
+    832
+}
+
+#[no_mangle]
 pub extern "C" fn trm_record_version() -> u32
     ensures { λ r. ⌜ r ≡ recordVersion ⌝ }
 {
-    2
+    3
 }

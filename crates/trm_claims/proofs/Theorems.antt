@@ -7,6 +7,11 @@ use Rattle.trm_reference.proofs.Theorems.{theorems as reference-theorems}
 use Rattle.trm_cache.proofs.Theorems.{theorems as cache-theorems}
 use Rattle.trm_core.proofs.Theorems.{theorems as core-theorems}
 use Rattle.trm_agreement.proofs.Theorems.{theorems as agreement-theorems}
+use Rattle.trm_clock_device.proofs.Theorems.{theorems as device-theorems}
+use Rattle.trm_serial.proofs.Theorems.{theorems as serial-theorems}
+use Rattle.trm_board.proofs.Theorems.{theorems as board-theorems}
+use Rattle.trm_board_calls.proofs.Theorems.{theorems as board-call-theorems}
+use Rattle.trm_board_agreement.proofs.Theorems.{theorems as board-agreement-theorems}
 use Rattle.trm_image.proofs.Theorems.{theorems as image-theorems}
 use Rattle.trm_list_text.proofs.Theorems.{theorems as text-theorems}
 use Rattle.trm_listing.proofs.Theorems.{theorems as listing-theorems}
@@ -23,6 +28,11 @@ theorems =
       cache = cache-theorems;
       core = core-theorems;
       agreement = agreement-theorems;
+      device = device-theorems;
+      serial = serial-theorems;
+      board = board-theorems;
+      board-calls = board-call-theorems;
+      board-agreement = board-agreement-theorems;
       image = image-theorems;
       text = text-theorems;
       listing = listing-theorems;

@@ -6,6 +6,8 @@ use crate::digest;
 use crate::fields;
 use crate::lists;
 use crate::print;
+use trm_board::record::Devices;
+use trm_board_calls::board_calls;
 use trm_call_inspect::inspect_calls as inspect;
 use trm_call_refusals::inner::refusal_number::number_of;
 use trm_call_refusals::refusal::Refusal;
@@ -15,31 +17,35 @@ use trm_core::sighting::Sighting;
 use trm_run_machine::clock_answer::Clock;
 use trm_run_machine::machine::Machine;
 
-// The record, and how many words of the program and of the store are lent.
+// The record, the board's own fields, and how many words of the program and of the store are lent.
 pub struct Bench {
     pub machine: Machine,
+    pub devices: Devices,
     pub program: u32,
     pub store: u32,
 }
 
-// Nothing is lent yet, and the record is that of a reset with 64 words.
+// Nothing is lent yet, and the record and the board are those of a reset with 64 words.
 pub fn start() -> Bench {
     let store = [0u32; 64];
-    let r = machine_calls::reset(&store);
-    let m = r.machine;
+    let r = board_calls::reset(&store);
+    let board = r.board;
+    let m = board.machine;
+    let d = board.devices;
     Bench {
         machine: m,
+        devices: d,
         program: 0,
         store: 0,
     }
 }
 
-fn number(refused: Refusal) -> u64 {
+pub fn number(refused: Refusal) -> u64 {
     number_of(refused) as u64
 }
 
 // Prints digests of the whole record and of the store.
-fn show_all(m: Machine, store: &[u32]) {
+pub fn show_all(m: Machine, store: &[u32]) {
     print::hex(fields::digest_of(m), 8);
     print::hex(digest::of_words(store), 8);
 }
@@ -55,7 +61,7 @@ pub fn reset(m: Machine, store: &[u32]) -> Machine {
     next
 }
 
-fn show_answer(byte: u8, word: u32) {
+pub fn show_answer(byte: u8, word: u32) {
     print::hex(byte as u64, 2);
     print::word(word);
 }

@@ -1,8 +1,10 @@
 // Runs the cases of its standard input, one per input line, and prints each with the library's answer.
-// Paper: "Bench cases", the edges of operations, conditions, addresses, words and fields beside them, and "Where calls are turned down".
+// Paper: "Bench cases", the edges of operations, conditions, addresses, words and fields beside them, and "Where calls are turned down";
+// the same of the board's calls (request A1).
 // A case is a letter, four words of eight hexadecimal digits, and in 17 columns the ids in docs/CLAIMS.md of the sentences that it tests.
 mod arithmetic;
 mod bench;
+mod board_cases;
 mod case_text;
 mod cases;
 mod digest;

@@ -2,13 +2,15 @@
 // L program store: how many words of each are lent from now on. J list from count word: fills a part of the program (0) or of the
 // store (1). F field high low: sets a field of the record; V field: prints one (fields.rt). H at: prints a word of the store itself.
 // R: reset. K line input: the clock call. Z: a run, with the words described at bench::run. O address: look. Y length at: copy.
-// U length device bytes: the watch.
+// U length device bytes: the watch. The small letters are cases on the board (board_cases.rt).
 use crate::bench;
 use crate::bench::Bench;
+use crate::board_cases;
 use crate::case_text::Case;
 use crate::fields;
 use crate::lists;
 use crate::print;
+use trm_board_calls::board_record::Board;
 use trm_run_machine::machine::Machine;
 
 // The case J.
@@ -22,10 +24,12 @@ pub fn fill(c: Case, program: &mut [u32], store: &mut [u32]) {
     }
 }
 
-// The cases L, F, V and U.
+// The cases L, F, V and U, and those on the board's own fields.
 pub fn on_bench(c: Case, b: Bench) -> Bench {
     let mut after = b;
     let kind = c.kind;
+    let devices = board_cases::on_fields(c, b.devices);
+    after.devices = devices;
     match kind {
         b'L' => {
             after.program = c.w0;
@@ -47,10 +51,21 @@ pub fn on_bench(c: Case, b: Bench) -> Bench {
 pub fn on_lent(c: Case, b: Bench, program: &[u32], store: &mut [u32]) -> Bench {
     let p = lists::within(program, b.program);
     let n = lists::within(store, b.store);
-    let next = called(c, b.machine, &program[..p], &mut store[..n]);
-    let mut after = b;
-    after.machine = next;
-    after
+    let m = called(c, b.machine, &program[..p], &mut store[..n]);
+    let d = b.devices;
+    let board = Board {
+        machine: m,
+        devices: d,
+    };
+    let next = board_cases::called(c, board, &program[..p], &mut store[..n]);
+    let machine = next.machine;
+    let devices = next.devices;
+    Bench {
+        machine: machine,
+        devices: devices,
+        program: b.program,
+        store: b.store,
+    }
 }
 
 fn called(c: Case, m: Machine, program: &[u32], store: &mut [u32]) -> Machine {

@@ -55,18 +55,18 @@ pub struct Outcome {
 }
 
 const GUARD: usize = 4;
-const FENCE: u32 = 0xFEED_FACE;
-const FENCE_BYTE: u8 = 0xA5;
+pub const FENCE: u32 = 0xFEED_FACE;
+pub const FENCE_BYTE: u8 = 0xA5;
 
 /// A copy of lent items with guards before and after.
-struct Fenced<T: Copy + PartialEq> {
+pub struct Fenced<T: Copy + PartialEq> {
     items: Vec<T>,
     fence: T,
 }
 
 impl<T: Copy + PartialEq> Fenced<T> {
     /// Built in `room`, whose items are overwritten.
-    fn new(items: &[T], fence: T, mut room: Vec<T>) -> Fenced<T> {
+    pub fn new(items: &[T], fence: T, mut room: Vec<T>) -> Fenced<T> {
         let guard = [fence; GUARD];
         room.clear();
         room.reserve(items.len() + 2 * GUARD);
@@ -76,13 +76,13 @@ impl<T: Copy + PartialEq> Fenced<T> {
         Fenced { items: room, fence }
     }
 
-    fn lend(&mut self) -> &mut [T] {
+    pub fn lend(&mut self) -> &mut [T] {
         let end = self.items.len() - GUARD;
         &mut self.items[GUARD..end]
     }
 
     /// The items, and whether the guards are unchanged.
-    fn back(mut self) -> (Vec<T>, bool) {
+    pub fn back(mut self) -> (Vec<T>, bool) {
         let end = self.items.len() - GUARD;
         let guards = self.items[..GUARD].iter().chain(&self.items[end..]);
         let whole = guards.into_iter().all(|guard| *guard == self.fence);
@@ -237,7 +237,7 @@ pub fn untouched(call: &Call, lent: &Lent, outcome: &Outcome) -> Option<String> 
         .or_else(|| place("answer or copied word", call.words(), &outcome.words))
 }
 
-fn place<T: PartialEq + std::fmt::Debug>(name: &str, left: &[T], right: &[T]) -> Option<String> {
+pub fn place<T: PartialEq + std::fmt::Debug>(name: &str, left: &[T], right: &[T]) -> Option<String> {
     if left == right {
         return None;
     }

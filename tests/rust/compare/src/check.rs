@@ -23,6 +23,8 @@ pub struct Check {
     pub observing: bool,
     /// Memory of the library's stores in the last call, to be used again: by value, lent.
     pub rooms: [Vec<u32>; 2],
+    /// What the clocks of the board have reached.
+    pub board: crate::board::events::Events,
 }
 
 impl Check {

@@ -31,7 +31,7 @@ pub fn sweep(check: &mut Check, random: &mut Random) {
 }
 
 /// Values to try in a field: around the old one, around powers of two, all ones, and some of another field.
-fn values(random: &mut Random, field: Field, m: &Machine) -> Vec<u64> {
+pub fn values(random: &mut Random, field: Field, m: &Machine) -> Vec<u64> {
     let old = field.get(m);
     let mut values = vec![old.wrapping_add(1), old.wrapping_sub(1), old ^ 1 << random.below(64), u64::MAX];
     match field {

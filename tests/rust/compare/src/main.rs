@@ -1,6 +1,7 @@
 // Compares the library with the simulator, call by call, and counts what was compared.
-// Paper: all of it but images and the listing program.
+// Paper: all of it but images and the listing program; request A1.
 // Called: compare [--rounds N | --seconds N] [--seed S] [--part P]; see tests/rust/run.
+mod board;
 mod call;
 mod check;
 mod clauses;
@@ -31,7 +32,7 @@ struct Options {
     rounds: Option<u64>,
     seconds: Option<u64>,
     seed: u64,
-    /// Only this part, 1 to 7.
+    /// Only this part, 1 to 10.
     part: Option<u64>,
 }
 
@@ -77,6 +78,10 @@ fn round(check: &mut Check, options: &Options, seed: u64) {
         check.part = "part 6, S2.46 the plain machine of demand 3".into();
         demand::demand(check, &mut Random::new(seed ^ 0x6666));
     }
+    if options.wants(9) {
+        check.part = "part 9, A1 random calls of the board".into();
+        board::rounds::round(check, &mut Random::new(seed ^ 0x9999_0000), seed);
+    }
 }
 
 fn rounds(check: &mut Check, options: &Options) -> u64 {
@@ -114,6 +119,7 @@ fn main() {
         let pairs = edges::edges(&mut check);
         println!("S1.5 arithmetic: {pairs} pairs of edge words");
     }
+    board_once(&mut check, &options);
     let done = rounds(&mut check, &options);
     println!("{done} rounds from seed {}", options.seed);
     let whole = options.rounds.is_none() && options.part.is_none();
@@ -127,10 +133,33 @@ fn main() {
     }
 }
 
+/// The parts of the board that are done once.
+fn board_once(check: &mut Check, options: &Options) {
+    if options.wants(8) {
+        check.part = "part 8, A1 refusals and edges of the board".into();
+        let edges = board::table::table(check);
+        println!("A1 board refusals: {edges} edges and orders of rows");
+        let meetings = board::meet::meetings(check);
+        println!("A1 accesses around the edges of frames and of the tick: {meetings}");
+    }
+    if options.wants(10) {
+        check.part = "part 10, A1 a line joined to itself".into();
+        let handed = board::timing::timing(check);
+        println!("A1 a line joined to itself: {handed} bytes handed over");
+    }
+}
+
+/// What the calls have reached, with names.
+fn reached(check: &Check) -> Vec<(String, u64)> {
+    let mut counts = check.tally.counts();
+    counts.extend(check.board.counts());
+    counts
+}
+
 /// Prints the tally; a count of zero is a failure if all rounds were done.
 fn counts(check: &mut Check, whole: bool) -> u64 {
     let mut failed = 0;
-    for (name, count) in check.tally.counts() {
+    for (name, count) in reached(check) {
         println!("{count:>12} {name}");
         if count > 0 {
             check.pass();

@@ -5,8 +5,9 @@ use crate::cache::Cache;
 use crate::clock::Machine;
 use crate::events::Events;
 use crate::feed::Feed;
-use crate::record::{Record, State};
+use crate::record::{Record, State, LAST};
 use crate::refuse;
+use crate::word::{self, Place};
 
 /// What one clock returns: device byte, word moved, and whether it finished an instruction (1 or 0).
 #[derive(Clone, Copy, PartialEq, Eq, Debug, Default)]
@@ -68,6 +69,21 @@ pub fn trace<E: Events>(record: &mut Record, program: &[u32], store: &mut [u32],
     let mut machine = Machine { state, registers, cache, program, store, feed, finished: 0, events };
     let used = machine.run();
     Ran { used, finished: machine.finished }
+}
+
+/// The device that the next clock reads unless it is held; none if it reads none. For an accepted record.
+#[inline(always)]
+pub fn device_due(record: &Record, program: &[u32], size: usize) -> Option<u8> {
+    let state = &record.state;
+    if state.phase != LAST {
+        return None;
+    }
+    let word = word::fetch(program, state.pc as usize);
+    let base = record.registers[state.register(word::s(word))];
+    match word::place(word, base, size) {
+        Place::Device(device) if word::operation(word) == word::LD => Some(device),
+        _ => None,
+    }
 }
 
 /// One word of data memory, through the cache.

@@ -31,6 +31,7 @@ pub fn unheld(clocks: &mut Iter<u8>, held: &mut u64) -> Option<u8> {
 
 impl<'a> Feed<'a> {
     /// All four have the same length.
+    #[inline(always)]
     pub fn new(line_bytes: &'a [u8], inputs: &'a [u32], bytes: &'a mut [u8], words: &'a mut [u32]) -> Feed<'a> {
         bytes.fill(0);
         words.fill(0);

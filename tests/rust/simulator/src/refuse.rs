@@ -1,6 +1,7 @@
 // The rows of the refusal table, each as one check that returns its number.
 // Paper: "Where calls are turned down", rows 3 to 9.
 // The calls check the rows in order and skip those about things they do not take.
+use crate::devices::Devices;
 use crate::record::Record;
 use crate::rule;
 
@@ -41,6 +42,11 @@ pub fn common(record: &Record, words: &[u32], size: usize) -> Check {
     program(words)?;
     store(record, size)?;
     self::record(record, words, size)
+}
+
+/// Row 5 of a board, after the record's.
+pub fn devices(devices: &Devices) -> Check {
+    unless(devices.accepted(), 5)
 }
 
 /// Row 6 of a run.

@@ -16,20 +16,34 @@ enum-told : tie.Need-enum-told
 enum-told c = search needs
 
 returns : tie.Need-returns
-returns c = let w = c .before .before .before .before .watch .ensures in record {
-  sighting = c .before .before .before .before .watch .result .sighting;
-  answer = rw (c .before .before .before .number-of .ensures, w .number, c .before .sighting .given .1);
-  accepted = w .accepted;
-  refused = w .refused;
-}
+returns c =
+    let w = c .before .before .before .before .watch .ensures in
+    record {
+      sighting = c .before .before .before .before .watch .result .sighting;
+      answer = rw (
+        c .before .before .before
+            .number-of .ensures,
+        w .number,
+        c .before .sighting .given .1,
+      );
+      accepted = w .accepted;
+      refused = w .refused;
+    }
 
 returns-2 : tie.Need-returns-2
-returns-2 c = let w = c .before .before .before .watch .ensures in record {
-  sighting = c .before .before .before .watch .result .sighting;
-  answer = rw (c .before .before .number-of .ensures, w .number, c .enum-told .given .1);
-  accepted = w .accepted;
-  refused = w .refused;
-}
+returns-2 c =
+    let w = c .before .before .before .watch .ensures in
+    record {
+      sighting = c .before .before .before .watch .result .sighting;
+      answer = rw (
+        c .before .before .number-of .ensures,
+        w
+            .number,
+        c .enum-told .given .1,
+      );
+      accepted = w .accepted;
+      refused = w .refused;
+    }
 
 pub trm-watch-spec : {M : Type 1} → statement M
 trm-watch-spec =

@@ -24,19 +24,19 @@ number-of-requires c κs = search needs
 
 returns : tie.Need-returns
 returns c =
-    payload-refused _ _ _ (c .number-of .ensures ∙ c .before .before .before .before .payload-fault .ensures)
-    (ap (λ k. eqb k 0) (c .number-of .ensures) ∙ sym (c .before .before .accepted .ensures) ∙ not-true _ (c .before .if1 .taken))
+    payload-refused _ _ _ (c .number-of .ensures ∙ c .before .before .before .before .payload-fault .ensures) (ap (λ k. eqb k 0) (c
+    .number-of .ensures) ∙ sym (c .before .before .accepted .ensures) ∙ not-true _ (c .before .if1 .taken))
 
 add-t8 : tie.Need-add-t8
 add-t8 c =
-    let whole = payload-whole _ _ (ap (λ k. eqb k 0) (sym (c .before .before .before .payload-fault .ensures)) ∙ sym
-    (c .before .accepted .ensures) ∙ not-false _ (c .if1 .left)) in
+    let whole = payload-whole _ _ (ap (λ k. eqb k 0) (sym (c .before .before .before .payload-fault .ensures)) ∙ sym (c .before
+    .accepted .ensures) ∙ not-false _ (c .if1 .left)) in
     omega (arith, whole)
 
 returns-2 : tie.Need-returns-2
 returns-2 c =
-    let z = ap (λ k. eqb k 0) (sym (c .before .before .before .payload-fault .ensures)) ∙ sym (c .before .accepted .ensures)
-    ∙ not-false _ (c .if1 .left) in
+    let z = ap (λ k. eqb k 0) (sym (c .before .before .before .payload-fault .ensures)) ∙ sym (c .before .accepted .ensures) ∙
+    not-false _ (c .if1 .left) in
     payload-told _ _ _ z (ap length (c .before .before .payload .ensures ∙ sym (gives-part _ _ z)))
 
 pub trm-image-payload-spec : {M : Type 1} → statement M

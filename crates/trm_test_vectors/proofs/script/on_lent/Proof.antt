@@ -23,6 +23,18 @@ slice-aggregate-called-2 c = simp length-take (omega arith)
 called-requires : tie.Need-called-requires
 called-requires c κs = search needs
 
+slice-aggregate-called-3 : tie.Need-slice-aggregate-called-3
+slice-aggregate-called-3 c = simp length-take (omega arith)
+
+slice-relend-prefix-called-2 : tie.Need-slice-relend-prefix-called-2
+slice-relend-prefix-called-2 c = search needs
+
+slice-aggregate-called-4 : tie.Need-slice-aggregate-called-4
+slice-aggregate-called-4 c = simp length-take (omega arith)
+
+called-requires-2 : tie.Need-called-requires-2
+called-requires-2 c κs = search needs
+
 same-length : tie.Need-same-length
 same-length c = search needs
 
@@ -39,5 +51,9 @@ on-lent-spec =
     slice-relend-prefix-called
     slice-aggregate-called-2
     called-requires
+    slice-aggregate-called-3
+    slice-relend-prefix-called-2
+    slice-aggregate-called-4
+    called-requires-2
     same-length
     returns)

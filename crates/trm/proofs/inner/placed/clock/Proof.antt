@@ -25,22 +25,23 @@ returns c =
     record {
       number = c .before .before .number-of .ensures ∙ c .before .before .before .clock-refusal .ensures;
       outcome = rw (
-        ← c .before .before .before .clock-refusal .ensures,
+        ← c
+            .before .before .before .clock-refusal .ensures,
         ← c .before .accepted .ensures,
-        not-true
-            (c .before .accepted .result) (c .if1 .taken),
+        not-true (c .before .accepted .result) (c .if1
+            .taken),
       );
     }
 
 one-clock-requires : tie.Need-one-clock-requires
-one-clock-requires c κs = (
-  code-zero (c .before .before .before .before .before .before .before .before .before .clock-refusal .ensures)
-      (c .before .before .before .before .before .before .before .accepted .ensures) (not-false
-      (c .before .before .before .before .before .before .before .accepted .result)
-      (c .before .before .before .before .before .before .if1 .left)),
-  c .before .before .before .before .before .before .before .before .before .before .before .before .before .before .before .before
-      .before .before .pre,
-)
+one-clock-requires c κs =
+    let c10 = c .before .before .before .before .before .before .before .before .before .before in (
+      code-zero (c .before .before .before .before .before .before .before .before .before .clock-refusal .ensures) (c .before
+          .before .before .before .before .before .before .accepted .ensures) (not-false (c .before .before .before .before .before
+          .before .before .accepted .result) (c .before .before .before .before .before .before .if1 .left)),
+      c10 .before .before .before
+          .before .before .before .before .before .pre,
+    )
 
 same-length-2 : tie.Need-same-length-2
 same-length-2 c = search needs
@@ -48,19 +49,15 @@ same-length-2 c = search needs
 returns-2 : tie.Need-returns-2
 unfolding clockGives
 returns-2 c =
+    let c10 = c .before .before .before .before .before .before .before .before .before .before in
     record {
-      number = c .before .before .before .before .before .before .before .before .before .before .before .before .number-of .ensures
-          ∙ c .before .before .before .before .before .before .before .before .before .before .before .before .before .clock-refusal
-          .ensures;
+      number = c10 .before .before .number-of .ensures ∙ c10 .before .before .before .clock-refusal .ensures;
       outcome = rw (
-        ← c .before .before .before .before .before .before .before .before .before .before .before .before .before
-            .clock-refusal .ensures,
-        ← c .before .before .before .before .before .before .before .before .before .before .before
-            .accepted .ensures,
-        not-false (c .before .before .before .before .before .before .before .before .before .before .before
-            .accepted .result) (c .before .before .before .before .before .before .before .before .before .before .if1 .left),
-      )
-          (c .before .before .before .one-clock .ensures);
+        ← c10 .before .before .before .clock-refusal .ensures,
+        ← c10 .before .accepted .ensures,
+        not-false (c10 .before .accepted
+            .result) (c10 .if1 .left),
+      ) (c .before .before .before .one-clock .ensures);
     }
 
 pub clock-spec : {M : Type 1} → statement M

@@ -1,0 +1,5 @@
+// `device_reads`: what a read gives; `device_clock`: the devices after a clock of the core; `device_ranges`: row 5 for their fields.
+// A function here may have a `requires`: the fields are in their ranges.
+pub mod device_clock;
+pub mod device_ranges;
+pub mod device_reads;

@@ -1,0 +1,6 @@
+-- Laws of the board with the core inside, one theme to a file.
+pub mod Obeys
+pub mod Rows
+pub mod Ready
+pub mod Clock
+pub mod Run

@@ -1,0 +1,2 @@
+// `device_read`: the query that a board asks before each clock.
+pub mod device_read;

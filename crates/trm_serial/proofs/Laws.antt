@@ -1,0 +1,9 @@
+-- Laws of the serial line, one theme to a file.
+pub mod Places
+pub mod Lists
+pub mod Clock
+pub mod Fates
+pub mod Joined
+pub mod Busy
+pub mod Narrow
+pub mod Cases
