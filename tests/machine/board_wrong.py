@@ -1,5 +1,5 @@
-# Wrong versions of the board of board.py: each has one thing otherwise than the paper, and each must be told by a row of board_tables.py.
-# Called: python3 tests/machine/board_wrong.py prints which rows tell which; tests/machine/run imports it.
+# Wrong versions of the board of board.py: each has one thing otherwise than the paper, and a row of board_tables.py must detect each.
+# Called: python3 tests/machine/board_wrong.py prints which rows detect which; tests/machine/run imports it.
 # Reads: board.py and board_tables.py. The versions are those of the readings of the paper, and others near them.
 import sys
 
@@ -662,7 +662,7 @@ class ByQuestion(Board):
 MACHINE = [EagerCore, HeldCore]
 
 
-# -------------------------------------------------------------- which row tells
+# -------------------------------------------------------------- which row detects
 
 def serial_numbers(serial, given):
     """What a serial line shows in these clocks and after them, as `expected` of a row has it."""
@@ -681,25 +681,25 @@ def board_numbers(board, takes):
     return out
 
 
-def telling(rows, numbers):
+def detecting(rows, numbers):
     """The numbers, from 1, of the rows whose expected numbers differ from those given."""
     return [at for at, row in enumerate(rows, 1) if numbers(row) != row.expected]
 
 
-def serial_tells(rows, version):
-    return telling(rows, lambda row: serial_numbers(version(row), row.given))
+def serial_detects(rows, version):
+    return detecting(rows, lambda row: serial_numbers(version(row), row.given))
 
 
-def both_clocks_tells(rows):
-    return telling(rows, lambda row: serial_numbers(Serial(row), in_both_clocks(row.given)))
+def both_clocks_detects(rows):
+    return detecting(rows, lambda row: serial_numbers(Serial(row), in_both_clocks(row.given)))
 
 
-def board_tells(rows, version=Board, serial=Serial):
-    return telling(rows, lambda row: board_numbers(version(row.timing, b.ScriptCore(row.script), serial), row.takes))
+def board_detects(rows, version=Board, serial=Serial):
+    return detecting(rows, lambda row: board_numbers(version(row.timing, b.ScriptCore(row.script), serial), row.takes))
 
 
-def machine_tells(core):
-    """Whether random programs over the machine tell a core that answers the question wrongly."""
+def machine_detects(core):
+    """Whether random programs over the machine detect a core that answers the question wrongly."""
     try:
         b.machine_runs(40, 200, ByQuestion, core)
         return False
@@ -708,26 +708,26 @@ def machine_tells(core):
 
 
 def reports():
-    """(what is wrong, the rows that tell it) for each version; the right ones are told by none."""
+    """(what is wrong, the rows that detect it) for each version; none detects the right ones."""
     serial, board = tables.serial_rows(), tables.board_rows()
-    m.check('the right serial line', serial_tells(serial, Serial), [])
-    m.check('the right board', board_tells(board), [])
-    m.check('the right core', machine_tells(b.MachineCore), False)
+    m.check('the right serial line', serial_detects(serial, Serial), [])
+    m.check('the right board', board_detects(board), [])
+    m.check('the right core', machine_detects(b.MachineCore), False)
     for version in SERIAL:
-        yield f'serial rows: {version.__doc__}', serial_tells(serial, version)
-    yield 'serial rows: device 4 read in both clocks of an LD', both_clocks_tells(serial)
+        yield f'serial rows: {version.__doc__}', serial_detects(serial, version)
+    yield 'serial rows: device 4 read in both clocks of an LD', both_clocks_detects(serial)
     for version in BOARD:
-        yield f'board rows: {version.__doc__}', board_tells(board, version)
+        yield f'board rows: {version.__doc__}', board_detects(board, version)
     for core in MACHINE:
-        yield f'random programs: {core.__doc__}', ['told'] if machine_tells(core) else []
+        yield f'random programs: {core.__doc__}', ['detected'] if machine_detects(core) else []
 
 
 def main():
-    for what, told in reports():
-        print(f'{what}: {" ".join(map(str, told)) or "NOT TOLD"}')
+    for what, found in reports():
+        print(f'{what}: {" ".join(map(str, found)) or "NOT DETECTED"}')
     board = tables.board_rows()
     for version in SERIAL:
-        print(f'(board rows: {version.__doc__}: {" ".join(map(str, board_tells(board, serial=version))) or "not told"})')
+        print(f'(board rows: {version.__doc__}: {" ".join(map(str, board_detects(board, serial=version))) or "not detected"})')
 
 
 if __name__ == '__main__':

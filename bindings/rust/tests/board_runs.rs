@@ -89,18 +89,18 @@ fn a1_2_a_run_is_its_clocks() {
     assert_eq!(met, [true; 6], "accepted, received, tick up and down, lamps, a read that finds the bit");
 }
 
-/// The joined line, the same levels given, and the bit of the line turned over, which the joined calls do not look at.
+/// The joined line, the same levels given, and the bit of the line inverted, which the joined calls do not look at.
 #[test]
 fn a1_11_joined_is_the_same_levels_given() {
     let (given, switches) = inputs();
     for start in starts() {
-        let (mut joined, mut told, mut turned) = (start.clone(), start.clone(), start);
+        let (mut joined, mut given_levels, mut inverted) = (start.clone(), start.clone(), start);
         let ran = joined.run_joined(&given, &switches).unwrap();
         let with_levels: Vec<u8> = given.iter().zip(&ran.levels).map(|(byte, level)| byte & 6 | level).collect();
-        assert_eq!(told.run(&with_levels, &switches).unwrap(), ran);
+        assert_eq!(given_levels.run(&with_levels, &switches).unwrap(), ran);
         let other_lines: Vec<u8> = given.iter().map(|byte| byte ^ 1).collect();
-        assert_eq!(turned.run_joined(&other_lines, &switches).unwrap(), ran);
-        assert_eq!((told, turned), (joined.clone(), joined));
+        assert_eq!(inverted.run_joined(&other_lines, &switches).unwrap(), ran);
+        assert_eq!((given_levels, inverted), (joined.clone(), joined));
     }
 }
 
