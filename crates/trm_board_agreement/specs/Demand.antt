@@ -1,6 +1,6 @@
 -- REQUEST A1 AND DEMAND 3 OF THE BOARD, in one record: `BoardDemand`, about the functions that customers link.
--- "For any program, any first memory and any list of board calls from a board reset, refused ones included, whatever the serial line, the
--- switches, interrupt 1 and stall do".
+-- For any program, any first memory and any list of board calls from a board reset, refused ones included, whatever the serial line, the
+-- switches, interrupt 1 and stall do.
 --   Holds         what is claimed of the log of a list of calls, each field under its words
 --   BoardDemand   that this holds of whatever the calls return, and what else a caller needs to know of them
 -- A log has the start; each clock of a call that is not refused, with what it was given, what is seen after it (what demand 3 compares of
@@ -44,8 +44,8 @@ pub record Holds (p s : List ℕ) (cs : List BoardCall) (first : BoardSeen) (es 
   pub core : coresIn first es
       ≡ entries coreFeed coreAnswer (referenceEngine paperGeometry p)
       (clocks (referenceClock paperGeometry p) (referenceReset s) (fedIn first es)) (fedIn first es)
-  -- so all that demand 3 audits holds of it: the counts after every clock, interrupts both ways, each instruction's charge, and
-  -- "each device load or store reaches the device once, on finishing, in program order"
+  -- so all that demand 3 audits holds of it: the counts after every clock, interrupts both ways, each instruction's charge, and that
+  -- each device load or store reaches the device once, on finishing, in program order
   pub audited : Audited paperGeometry p (opened (first .core)) (coresIn first es)
   pub devices : deviceAnswers (answersIn (coresIn first es)) ≡ accessesIn paperGeometry p (opened (first .core)) (coresIn first es)
   -- A1 of the clocks: loop-back (for a log whose clocks all had the line joined to itself), what becomes of every byte, busy, the tick,

@@ -48,7 +48,7 @@ unfoldable pub storeLeft : Returned → List ℕ
 storeLeft (clockReturned number left store out) = store
 storeLeft (runReturned number left store used finished levels bytes words) = store
 
--- what a call that is refused with this number returns: everything as it was given; "a refused call's level is no level": 0
+-- what a call that is refused with this number returns: everything as it was given; it sends no level, and returns 0 there
 unfoldable pub asGiven : Board → List ℕ → BoardCall → ℕ → Returned
 asGiven b s (clockCall joined given switches) number = clockReturned number b s (record { level = 0; answer = silent 0 })
 asGiven b s (runCall joined given switches levels bytes words) number = runReturned number b s 0 0 levels bytes words

@@ -1,5 +1,5 @@
 // The clocks of a run: line bytes and input words in, answer bytes and words out.
-// Paper: "Clock by clock": held clocks, and "Per clock it writes a byte and the word moved".
+// Paper: "Clock by clock": held clocks, and "Per clock it writes a byte .. and the word moved".
 // The answers are cleared at the start, so that only a clock with a device access has to write them.
 use crate::record::State;
 use std::ops::Range;
