@@ -1,5 +1,6 @@
 -- Every list of board calls from an accepted reset has an exchange: what the definitions give meets the contracts.
 -- Idea: the board of the code is built from that of the definitions, a reference from the list that it holds.
+--   back x    the board of the code        exchange-exists
 use Prim.Native.Nat.{ℕ}
 use mathlib.Core.Path.{_≡_, refl}
 use mathlib.Core.Bool.{Bool, true, false}
@@ -22,7 +23,10 @@ use Rattle.trm_board_agreement.specs.Contracts.{ResetMet, Slices}
 use Rattle.trm_board_agreement.specs.Exchange.{starts, Returned, clockReturned, runReturned, boardLeft, storeLeft, Meets, byClock}
 use Rattle.trm_board_agreement.specs.Exchange.{byJoinedClock, byRun, byJoinedRun, Exchange}
 use Rattle.trm_board_agreement.specs.Demand.{Exists}
-use Rattle.trm_board_agreement.proofs.Laws.Exchange.{back}
+
+-- the board of the code from that of the definitions
+unfoldable pub back : BoardOf Lent → Board
+back x = record { machine = machineBack (x .core .machine); devices = x .devices }
 
 reset-gives : List ℕ → BoardResetAnswer
 reset-gives s = record { board = back (boardResetGives s); number = resetRefusal s }
