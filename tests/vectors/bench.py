@@ -1,5 +1,5 @@
-# The machine of a script of trm_test_vectors: the input lines, the answers, and the state after them.
-# Called: imported by tests/vectors/scripts.py; it does nothing when run.
+# The machine of a script of trm_test_vectors or trm_test_board: the input lines, the answers, and the state after them.
+# Called: imported by tests/vectors/scripts.py and board_bench.py; it does nothing when run.
 # Reads: tests/machine/. machine.py there computes what clocks do; a script gives each call's refusal number, 0 for none.
 import sys
 from pathlib import Path
@@ -19,7 +19,7 @@ def case_text(kind, *words):
     return ' '.join([kind] + [f'{w:08X}' for w in (list(words) + [0] * 4)[:4]])
 
 
-# ---- digests, as in crates/trm_test_vectors/src/digest.rt
+# ---- digests, as in crates/trm_test_cases/src/inner/digest.rt
 
 def mixed(digest, half):
     return (digest * 31 + half) % 4294967291
@@ -37,7 +37,7 @@ def of_record(record):
     return of_list(half for value in values for half in (value % WIDE, value // WIDE))
 
 
-# ---- the machine of a script, as in crates/trm_test_vectors/src/script.rt and bench.rt
+# ---- the machine of a script, as in crates/trm_test_cases/src/inner/script.rt and crates/trm_test_vectors/src/machine_cases.rt
 
 class Script:
     """Input lines and answers so far, and the state after them: a record, a program and a store, of which a part is lent."""
@@ -174,6 +174,14 @@ class Script:
         answers = [byte] * 65537
         answers[at] = byte if odd is None else odd
         self.case('U', length, device, at << 16 | answers[at] << 8 | byte, answer=sighting(answers[:length], device))
+
+
+def begin(s):
+    """A store whose words at 0-15, 64-71 and 120-159 differ from each other."""
+    s.head('S1.2', 'the store')
+    s.fill(1, 0, 65536, 0x0BADCAFE)
+    for at in (*range(0, 16), *range(64, 72), *range(120, 160)):
+        s.fill(1, at, 1, 0x1000 + at)
 
 
 def sighting(answers, device):

@@ -1,5 +1,5 @@
-# The serial board of a script of trm_test_vectors: the input lines of its cases, the answers, and the state after them.
-# Called: imported by tests/vectors/scripts.py; it does nothing when run.
+# The serial board of a script of trm_test_board: the input lines of its cases, the answers, and the state after them.
+# Called: imported by tests/vectors/board_scripts.py; it does nothing when run.
 # Reads: tests/vectors/bench.py, tests/machine/. board.py there computes what clocks do; a script gives each call's refusal number.
 import sys
 
@@ -7,7 +7,7 @@ sys.dont_write_bytecode = True
 from bench import WIDE, Script, m, of_list, refused
 import board
 
-NAMES = [name for _, name in board.FIELDS]                       # in the order of crates/trm_test_vectors/src/board_cases.rt
+NAMES = [name for _, name in board.FIELDS]                       # in the order of crates/trm_test_board/src/board_cases.rt
 HIGH, INTERRUPT_1, STALL = 1, 2, 4                               # bits of a given byte; HIGH is the line
 
 

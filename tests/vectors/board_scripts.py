@@ -1,10 +1,12 @@
-# Scripts on the serial board for the program trm_test_vectors: its refusals, its devices, and one byte over a line joined to itself.
-# Called: imported by tests/vectors/scripts.py; it does nothing when run.
-# Reads: tests/vectors/board_bench.py and clauses.py, tests/machine/. Figures and refusal numbers of request A1 are written as numbers.
+# Scripts on the serial board for the program trm_test_board: its refusals, its devices, and one byte over a line joined to itself.
+# Called: imported by tests/vectors/make; it does nothing when run.
+# Reads: tests/vectors/bench.py, board_bench.py and clauses.py, tests/machine/. Figures and refusal numbers of request A1 are written as
+# numbers.
 import sys
 
 sys.dont_write_bytecode = True
-from board_bench import HIGH, INTERRUPT_1, NAMES, STALL, WIDE, board
+from bench import begin
+from board_bench import HIGH, INTERRUPT_1, NAMES, STALL, WIDE, BoardScript, board
 from clauses import DEVICES, NEVER, ONES
 from machine import MOV, NOT, branch, imm, ld, rti, st, status
 
@@ -428,3 +430,14 @@ def nowhere(s):
 
 PARTS = [row_3, row_4, row_5, row_6, row_7, row_8, order, inputs, tick, milliseconds, statuses, data, panel, writes, sends, receives, frame,
          long_runs, nowhere]
+
+
+def script():
+    """All parts, from the store that the scripts of trm_test_vectors leave: the digests are those of one script that went on."""
+    s = BoardScript()
+    begin(s)
+    for at, word in ((7, 0), (128, 0), (65534, 0x1234), (65535, 0x5678)):
+        s.fill(1, at, 1, word)
+    for part in PARTS:
+        part(s)
+    return s

@@ -4,10 +4,8 @@
 import sys
 
 sys.dont_write_bytecode = True
-import board_scripts
 import clauses
-from bench import m
-from board_bench import BoardScript
+from bench import Script, begin, m
 from clauses import DEVICES, LOADS, NEVER, ONES, STORES, WIDE
 from machine import branch, call, imm, jump, jump_link, ld, mov_h, reg, rti, st, status
 
@@ -15,14 +13,6 @@ MOST = 4294967295
 
 
 # ---- "Bench cases"
-
-def begin(s):
-    """A store whose words at 0-15, 64-71 and 120-159 differ from each other."""
-    s.head('S1.2', 'the store')
-    s.fill(1, 0, 65536, 0x0BADCAFE)
-    for at in (*range(0, 16), *range(64, 72), *range(120, 160)):
-        s.fill(1, at, 1, 0x1000 + at)
-
 
 def fresh(s, *words, length=256, **fields):
     """Sets up a program, a store, a reset, and fields of the record."""
@@ -426,9 +416,9 @@ PARTS = [starred_addresses, starred_cache, lengths, listing, clock_table, misrea
 
 
 def script(starred):
-    s = BoardScript()
+    s = Script()
     begin(s)
     starred_arithmetic(s, starred)
-    for part in PARTS + board_scripts.PARTS:
+    for part in PARTS:
         part(s)
     return s

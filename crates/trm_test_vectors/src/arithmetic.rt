@@ -3,13 +3,13 @@
 // MUL and DIV are computed by their 32 steps, never by one multiplication or division.
 ghost use mathlib.Core.Path.{_≡_};
 ghost use Rattle.trm_alu.specs.Divide.{divided};
-use crate::print;
 use trm_alu::inner::bits;
 use trm_alu::inner::divide;
 use trm_alu::inner::divide::Divided;
 use trm_alu::inner::divide::Divider;
 use trm_alu::inner::flags;
 use trm_alu::inner::multiply;
+use trm_test_cases::inner::print;
 
 // The multiplier's register after `steps` steps.
 fn multiplied(a: u32, b: u32, steps: u32) -> u64 {

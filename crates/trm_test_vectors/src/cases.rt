@@ -1,10 +1,12 @@
 // The kinds of case: what each asks of the library, and how the answer is printed.
 // A operation B A CV; M steps B A; D steps B A; C condition NZCV; E s register offset; P address length;
-// T operation; W word; I form field field field; N; the other letters belong to scripts (script.rt).
+// T operation; W word; I form field field field; N; U length device bytes, the watch; the other letters belong to scripts
+// (machine_cases.rt).
 use crate::arithmetic;
-use crate::case_text::Case;
-use crate::print;
+use crate::machine_cases;
 use crate::word_cases;
+use trm_test_cases::inner::case_text::Case;
+use trm_test_cases::inner::print;
 use trm_word::inner::address;
 use trm_word::inner::address::Place;
 
@@ -22,6 +24,7 @@ pub fn answer(c: Case) {
         b'W' => word_cases::decode(c.w0),
         b'I' => word_cases::encode(c.w0, c.w1, c.w2, c.w3),
         b'N' => word_cases::count_canonical(),
+        b'U' => machine_cases::watch(c.w0, c.w1, c.w2),
         _ => {}
     }
 }

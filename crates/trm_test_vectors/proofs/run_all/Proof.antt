@@ -7,13 +7,16 @@ use Rattle.trm_test_vectors.proofs.run_all.Statement.{statement}
 use Rattle.trm_test_vectors.proofs.run_all.Tie as tie
 
 abbrev Inv-loop : tie.InvT-loop
-Inv-loop program₀ store₀ b₀ left₀ t6 program store b left = (length program ≡ length program₀) × (length store ≡ length store₀)
+Inv-loop program₀ store₀ m₀ lent₀ left₀ t7 program store m lent left = (length program ≡ length program₀) × (length store ≡ length store₀)
 
 abbrev μ-loop : tie.MeasureT-loop
-μ-loop program₀ store₀ b₀ left₀ t6 program store b left = left
+μ-loop program₀ store₀ m₀ lent₀ left₀ t7 program store m lent left = left
 
 start-requires : tie.Need-start-requires Inv-loop μ-loop
 start-requires c κs = search needs
+
+nothing-lent-requires : tie.Need-nothing-lent-requires Inv-loop μ-loop
+nothing-lent-requires c κs = search needs
 
 loop-holds : tie.Need-loop-holds Inv-loop μ-loop
 loop-holds c = search needs
@@ -30,8 +33,11 @@ answer-requires c κs = search needs
 fill-requires : tie.Need-fill-requires Inv-loop μ-loop
 fill-requires c κs = search needs
 
-on-bench-requires : tie.Need-on-bench-requires Inv-loop μ-loop
-on-bench-requires c κs = search needs
+lent-after-requires : tie.Need-lent-after-requires Inv-loop μ-loop
+lent-after-requires c κs = search needs
+
+on-record-requires : tie.Need-on-record-requires Inv-loop μ-loop
+on-record-requires c κs = search needs
 
 on-lent-requires : tie.Need-on-lent-requires Inv-loop μ-loop
 on-lent-requires c κs = search needs
@@ -44,14 +50,14 @@ write-all-requires c κs = search needs
 
 loop-less : tie.Need-loop-less Inv-loop μ-loop
 loop-less c =
-    let p = c .before .before .before .before .before .before .before .before .before .before .before in
+    let p = c .before .before .before .before .before .before .before .before .before .before .before .before in
     let t = p .before .before .before .before .before .before .before .before in
     omega (arith, t .loop-test .taken)
 
 loop-again : tie.Need-loop-again Inv-loop μ-loop
 loop-again c =
     let after = c .before .before .before in
-    let s = after .before .before .before .before .before .before in
+    let s = after .before .before .before .before .before .before .before in
     let p = s .before .before in
     let l = p .before .before .before .before .before .before .before .before .before in
     (p .program .given ∙ l .loop .inv .0, after .store2 .given ∙ s .store .given ∙ l .loop .inv .1)
@@ -81,12 +87,14 @@ run-all-spec =
     Inv-loop
     μ-loop
     start-requires
+    nothing-lent-requires
     loop-holds
     sub-left
     next-case-requires
     answer-requires
     fill-requires
-    on-bench-requires
+    lent-after-requires
+    on-record-requires
     on-lent-requires
     slice-aggregate-write-all
     write-all-requires
