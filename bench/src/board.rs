@@ -15,7 +15,19 @@ struct Load {
 
 fn loads() -> Vec<Load> {
     let of = |name, program, tick| Load { name, program, tick };
-    vec![of("idle loop", idle(), 0), of("polling", polling(), 0), of("echo", echo(), 0), of("tick interrupts", ticks(), 1)]
+    vec![
+        of("idle loop", idle(), 0),
+        of("polling", polling(), 0),
+        of("echo", echo(), 0),
+        of("tick interrupts", ticks(), 1),
+        of("MUL and DIV", of_the_core("MUL and DIV"), 0),
+        of("misses, dirty", of_the_core("misses, dirty"), 0),
+    ]
+}
+
+/// A program of the core's loads, which accesses no device.
+fn of_the_core(name: &str) -> Vec<u32> {
+    crate::loads::loads().into_iter().find(|load| load.name == name).unwrap().program
 }
 
 /// A branch to itself.

@@ -4,3 +4,5 @@ pub mod Rows
 pub mod Ready
 pub mod Clock
 pub mod Run
+pub mod One
+pub mod Ahead

@@ -5,5 +5,6 @@ pub mod Cores
 pub mod Refusals
 pub mod Run
 pub mod Coded
+pub mod Running
 pub mod Promises
 pub mod Claims

@@ -54,7 +54,7 @@ pub fn reset(store: &[u32]) -> BoardReset
     }
 }
 
-// One clock, the line given or joined.
+// One clock, the line given or joined: a run of one byte.
 fn any_clock(
     b: Board,
     program: &[u32],
@@ -65,68 +65,31 @@ fn any_clock(
 ) -> BoardClock
     ensures { λ r. ⌜ ClockHolds b (now (program .entry)) (now (store .entry)) joined given switches r (now (store .exit)) ⌝ }
 {
-    let refused = board_rows::clock_refusal(b, program, store, given);
-    if !record_rows::accepted(refused) {
-        return BoardClock {
-            board: b,
-            refused: refused,
-            level: 0,
-            byte: 0,
-            word: 0,
-            finished: 0,
-        };
-    }
-    let m = b.machine;
-    let d = b.devices;
-    let c = m.scalars;
-    let mut regs = m.regs;
-    let mut full = m.full;
-    let mut dirty = m.dirty;
-    let mut block = m.block;
-    let mut cached = m.words;
     let alone = [given; 1];
     let panel = [switches; 1];
     let mut levels = [0u8; 1];
     let mut bytes = [0u8; 1];
-    let mut outs = [0u32; 1];
-    let t = board_clocks::board_clocks(
-        c,
-        d,
+    let mut words = [0u32; 1];
+    let r = any_run(
+        b,
         program,
-        &mut regs,
-        &mut full,
-        &mut dirty,
-        &mut block,
-        &mut cached,
         store,
         joined,
         &alone,
         &panel,
         &mut levels,
         &mut bytes,
-        &mut outs,
+        &mut words,
     );
-    let after = t.scalars;
-    let devices = t.devices;
-    let machine = Machine {
-        scalars: after,
-        regs: regs,
-        full: full,
-        dirty: dirty,
-        block: block,
-        words: cached,
-    };
-    let board = Board {
-        machine: machine,
-        devices: devices,
-    };
+    let board = r.board;
+    let refused = r.refused;
     BoardClock {
         board: board,
         refused: refused,
         level: levels[0],
         byte: bytes[0],
-        word: outs[0],
-        finished: t.finished,
+        word: words[0],
+        finished: r.finished,
     }
 }
 

@@ -6,4 +6,4 @@ pub mod Shape
 pub mod One
 pub mod Begun
 pub mod Step
-pub mod Flight
+pub mod Quiet

@@ -2,3 +2,4 @@
 -- Paper: "Clock by clock"; what a clock does is defined by trm_core's `clockOf`.
 pub mod Machine
 pub mod Next
+pub mod Quiet

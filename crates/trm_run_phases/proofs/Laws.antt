@@ -7,3 +7,4 @@ pub mod Here
 pub mod Ahead
 pub mod Serial
 pub mod Next
+pub mod Did

@@ -2,11 +2,12 @@
 -- Paper: "A run carries out one clock per line byte". Used in inner contracts only: no claim rests on it.
 --   Point, point   the state of a run        Reached p ls is x₀ q bs ws   a run from x₀ is in state q, with buffers bs and ws
 --   At, Turned     what a turn requires and ensures        Under, Stands, Quietly   the same for a turn without answers
+--   Did   how far a turn goes: some clocks at least, or those before an access to a device
 --   Begins   the next clock begins an instruction        Room   what writing one clock's answer requires
 --   serialAt, withSerial   the registers in flight, and the scalars, after some clocks of steps
 use Prim.Native.Nat.{ℕ, _+_, _-_, _≤_, _<_}
 use mathlib.Core.Path.{_≡_}
-use mathlib.Core.Bool.{true, false}
+use mathlib.Core.Bool.{Bool, true, false}
 use mathlib.Core.List.{List, _++_}
 use lib.ListN.{length, getD, take, drop, replicate}
 use Rattle.trm_reference.specs.Geometry.{paperGeometry}
@@ -85,6 +86,12 @@ pub record At (p ls is : List ℕ) (q : Point) (bs ws : List ℕ) : Type 0 where
 -- every run in state q reaches q′
 abbrev pub Turned : List ℕ → List ℕ → List ℕ → Point → List ℕ → List ℕ → Point → List ℕ → List ℕ → Type 0
 Turned p ls is q bs ws q′ bs′ ws′ = (x₀ : Lent) → Reached p ls is x₀ q bs ws → Reached p ls is x₀ q′ bs′ ws′
+
+-- how far a turn goes, from clock i to clock j: at least one clock; if it stops before an access to a device, perhaps none, but no answer
+pub record Did (stops : Bool) (i j : ℕ) (bs bs′ : List ℕ) : Type 0 where
+  pub onward : i ≤ j
+  pub some : stops ≡ false → i < j
+  pub mute : stops ≡ true → bs′ ≡ bs
 
 -- some run is in this state with w the word at PC
 pub record Under (ls : List ℕ) (w : ℕ) (q : Point) : Type 0 where

@@ -1,5 +1,5 @@
--- Rows 3, 4 and 5 of the board's calls: what a number of 0 says, and that they come before the call's own rows; what an accepted clock and
--- an accepted run are ready for.
+-- Rows 3, 4 and 5 of the board's calls: what a number of 0 says, and that they come before the call's own rows; what an accepted run is
+-- ready for.
 -- Idea: by cases on the tests.
 use Prim.Native.Nat.{ℕ, _+_, _≤_}
 use mathlib.Core.Path.{_≡_, refl, sym, ap, _∙_}
@@ -18,7 +18,7 @@ use Rattle.trm_reference.specs.Geometry.{paperGeometry}
 use Rattle.trm_core.specs.Record.{Lent}
 use Rattle.trm_core.specs.Rule.{recordOk}
 use Rattle.trm_core.specs.Claims.{Shaped}
-use Rattle.trm_core.specs.Refusals.{allAtMost, programOk, storeOk, recordRows, clockRows, countRow, lineBytesRefused}
+use Rattle.trm_core.specs.Refusals.{allAtMost, programOk, storeOk, recordRows, countRow, lineBytesRefused}
 use Rattle.trm_core.proofs.Laws.Rows.{Passed, rows-passed, rows-rest}
 use Rattle.trm_run_machine.specs.Machine.{recordOf}
 use Rattle.trm_run_machine.proofs.Laws.Shape.{shaped-by-type}
@@ -27,7 +27,7 @@ use Rattle.trm_board.specs.Board.{Board}
 use Rattle.trm_board.specs.Rule.{devicesOk}
 use Rattle.trm_board.proofs.Laws.Ranges.{in-range}
 use Rattle.trm_board_calls.specs.declared.board_record.Board as coded
-use Rattle.trm_board_calls.specs.Refusals.{boardRows, boardClockRefusal, boardRunRows, boardRunRefusal}
+use Rattle.trm_board_calls.specs.Refusals.{boardRows, boardRunRows, boardRunRefusal}
 use Rattle.trm_board_calls.specs.Coded.{Ready}
 use Rattle.trm_board_calls.proofs.board_record.Board as T
 use Rattle.trm_board_calls.proofs.board_record.Board.Laws as T′
@@ -95,21 +95,6 @@ module _ (p : List ℕ) (x : Board Lent) where
       go : (t : Bool) → ltb 4294967295 (k + n) ≡ t → _≡_ {A = ℕ} (cond t 8 0) 0 → k + n ≤ 4294967295
       go true e z = absurd (omega arith)
       go false e z = ltb-false 4294967295 (k + n) e
-
-  -- a clock that is not refused
-  pub ready-clock : (given : ℕ) → Shaped paperGeometry (x .core .machine) → boardClockRefusal p x given ≡ 0 → Ready p x 1
-  unfolding boardClockRefusal clockRows
-  ready-clock given sh e = go (ltb 7 given) (h .1)
-    where
-      k : ℕ
-      k = x .core .machine .scalars .counts .clocks
-
-      h : Through p x × (clockRows k given ≡ 0)
-      h = board-through (clockRows k given) e
-
-      go : (t : Bool) → cond t 6 (countRow k 1) ≡ 0 → Ready p x 1
-      go true z = absurd (omega arith)
-      go false z = ready-through 1 (h .0) sh (room-of k 1 z)
 
 -- rows 6 to 8 of a run
 pub record Own (clocks : ℕ) (gs ws lv bs os : List ℕ) : Type 0 where

@@ -30,7 +30,7 @@ pub struct Stepped {
 }
 
 // The line of a clock: the level sent in that very clock if it is joined, else bit 0 of `given`.
-fn line_of(joined: bool, level: u64, given: u8) -> u64
+pub fn line_of(joined: bool, level: u64, given: u8) -> u64
     requires { ⌜ level ≤ 1 ⌝ }
     ensures { λ r. ⌜ (r ≡ cond joined level (given % 2)) × (r ≤ 1) ⌝ }
 {

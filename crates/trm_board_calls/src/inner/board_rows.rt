@@ -7,7 +7,7 @@ ghost use lib.Dec.{eqb};
 ghost use Rattle.trm_core.specs.Refusals.{lineBytesRefused};
 ghost use Rattle.trm_call_refusals.specs.Numbers.{numberOf};
 ghost use Rattle.trm_board_calls.specs.Coded.{boardOf};
-ghost use Rattle.trm_board_calls.specs.Refusals.{boardRows, boardClockRefusal, boardRunRefusal};
+ghost use Rattle.trm_board_calls.specs.Refusals.{boardRows, boardRunRefusal};
 use crate::board_record::Board;
 use trm_board::inner::device_ranges;
 use trm_call_refusals::inner::record_rows;
@@ -41,25 +41,6 @@ fn board_refusal(b: Board, program: &[u32], store: &[u32]) -> Refusal
     }
     if !device_ranges::devices_fit(d) {
         return Refusal::Record;
-    }
-    Refusal::Accepted
-}
-
-// One clock: row 6 for its byte, then row 8.
-pub fn clock_refusal(b: Board, program: &[u32], store: &[u32], given: u8) -> Refusal
-    ensures { λ r. ⌜ numberOf r ≡ boardClockRefusal (now (program .entry)) (boardOf b (now (store .entry))) given ⌝ }
-{
-    let refused = board_refusal(b, program, store);
-    if !record_rows::accepted(refused) {
-        return refused;
-    }
-    if given > 7 {
-        return Refusal::LineBytes;
-    }
-    let m = b.machine;
-    let c = m.scalars;
-    if table_rows::clocks_refused(c.counts.clocks, 1) {
-        return Refusal::Clocks;
     }
     Refusal::Accepted
 }

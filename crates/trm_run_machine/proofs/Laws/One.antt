@@ -1,6 +1,6 @@
 -- A clock is a run of one line byte: the same refusals, and the same outcome.
 -- Idea: with one line byte every length in the run's rows computes.
---   one-refusal, one-free   the refusals        one-ran   the outcome
+--   low, one-refusal, one-free   the refusals        one-ran   the outcome
 use Prim.Native.Nat.{ℕ, _+_}
 use mathlib.Core.Path.{_≡_, refl, sym, ap, _∙_}
 use mathlib.Core.Bool.{Bool, true, false, not, _&&_}
@@ -16,7 +16,8 @@ use Rattle.trm_core.specs.Clock.{clockOf}
 use Rattle.trm_core.specs.Refusals.{allAtMost, lineBytesRefused, runRows, clockRows, clockRefusal, runRefusal}
 use Rattle.trm_core.specs.Run.{bytesOf, wordsOf, historyOf, Ran, runOf}
 
-low : (lineByte : ℕ) → not (leb lineByte 7 && true) ≡ ltb 7 lineByte
+-- row 6 of one line byte
+pub low : (lineByte : ℕ) → not (leb lineByte 7 && true) ≡ ltb 7 lineByte
 low lineByte = go (leb lineByte 7) refl
   where
     go : (t : Bool) → leb lineByte 7 ≡ t → not (t && true) ≡ ltb 7 lineByte

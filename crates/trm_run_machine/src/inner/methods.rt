@@ -79,6 +79,7 @@ impl Machine {
             inputs,
             bytes,
             words,
+            false,
         );
         let after = g.scalars;
         let machine = Machine {

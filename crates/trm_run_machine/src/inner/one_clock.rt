@@ -59,6 +59,7 @@ pub fn one_clock(
         &inputs,
         &mut bytes,
         &mut outs,
+        false,
     );
     let after = g.scalars;
     Clocked {

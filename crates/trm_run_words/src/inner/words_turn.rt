@@ -2,16 +2,18 @@
 // Paper: the clock table; "takes an interrupt if .. Otherwise it begins an instruction".
 // Operations 0-7 take a fast path. A longer instruction leaves the loop in flight, in its phase.
 ghost use mathlib.Core.Path.{_≡_};
-ghost use mathlib.Core.Bool.{true, not, _||_};
+ghost use mathlib.Core.Bool.{true, not, _&&_, _||_};
 ghost use Prim.Native.Nat.{_+_, _≤_, _<_};
 ghost use lib.Dec.{eqb};
 ghost use Rattle.trm_word.specs.Fields.{operation};
+ghost use Rattle.trm_word.specs.Address.{storeLengthOk};
 ghost use Rattle.trm_reference.specs.Visible.{wordAt};
+ghost use Rattle.trm_reference.specs.Access.{isMemory, placeOfWord};
 ghost use Rattle.trm_reference.specs.Interrupt.{stalled, interruptChosen};
 ghost use Rattle.trm_cache.specs.Cache.{cache};
-ghost use Rattle.trm_core.specs.Record.{inPhase, advanced};
+ghost use Rattle.trm_core.specs.Record.{gathered, inPhase, advanced};
 ghost use Rattle.trm_core.specs.Rule.{countsOk};
-ghost use Rattle.trm_run_phases.specs.Reached.{point, At, Turned, Under, Quietly, Begins};
+ghost use Rattle.trm_run_phases.specs.Reached.{point, At, Turned, Did, Under, Quietly, Begins};
 use trm_cache::inner::cache_lines as cached;
 use trm_clock_bursts::inner::burst_clock;
 use trm_clock_ends::inner::word_begins as first;
@@ -19,6 +21,7 @@ use trm_clock_execute::inner::execute as carry;
 use trm_clock_operands::inner::operands;
 use trm_clock_scalars::inner::interrupt;
 use trm_clock_scalars::inner::scalars;
+use trm_core::record::Scalars;
 use trm_run_phases::inner::going;
 use trm_run_phases::inner::going::Going;
 use trm_word::inner::address::Place;
@@ -68,7 +71,8 @@ fn branch(
     going::quietly(h, carry::branch(h.scalars, regs, w), 1)
 }
 
-// 12 LD: uncached the first wait; on a miss the tag check; on a hit or from a device also the second clock, if it is due.
+// 12 LD: uncached the first wait; on a miss the tag check; on a hit or from a device also the second clock, if it is due. A run that stops
+// before an access to a device leaves the second clock of that LD to its caller.
 fn load(
     g: Going,
     program: &[u32],
@@ -83,6 +87,7 @@ fn load(
     inputs: &[u32],
     bytes: &mut [u8],
     outs: &mut [u32],
+    stops: bool,
 ) -> Going
     requires { ⌜ At (now program) (now pins) (now inputs) (point g (now regs) (cache (now full) (now dirty) (now block) (now words))
         (now store)) (now bytes) (now outs)
@@ -94,13 +99,16 @@ fn load(
         (now (bytes .entry)) (now (outs .entry))
         (point r (now (regs .exit)) (cache (now (full .exit)) (now (dirty .exit)) (now (block .exit)) (now (words .exit)))
         (now (store .exit)))
-        (now (bytes .exit)) (now (outs .exit)) × (g .at < r .at) ⌝ }
+        (now (bytes .exit)) (now (outs .exit)) × Did stops (g .at) (r .at) (now (bytes .entry)) (now (bytes .exit)) ⌝ }
 {
     let c = g.scalars;
     let place = operands::place_of_word(c, regs, w, store.len() as u64);
     match place {
         Place::Device(d) => {
             let h = enters(g, 5, 0); // the device is read in the second clock
+            if stops {
+                return h;
+            }
             let at = h.at;
             if !going::due(pins, at) {
                 return h;
@@ -133,6 +141,21 @@ fn load(
     }
 }
 
+// Whether the store w is at a device, in a run that stops before it.
+fn store_waits(stops: bool, c: Scalars, regs: &[u32; 16], w: u32, n: u64) -> bool
+    requires { ⌜ storeLengthOk n ≡ true ⌝ }
+    ensures { λ r. ⌜ r ≡ (stops && not (isMemory (placeOfWord w (gathered c (now (regs .entry))) n))) ⌝ }
+{
+    if !stops {
+        return false;
+    }
+    let place = operands::place_of_word(c, regs, w, n);
+    match place {
+        Place::Device(_) => true,
+        Place::Memory(_) => false,
+    }
+}
+
 // Begins the instruction w, operations 8 to 15: a match on 11 to 15; the rest are 8 to 10 (D-27).
 fn begin(
     g: Going,
@@ -148,6 +171,7 @@ fn begin(
     inputs: &[u32],
     bytes: &mut [u8],
     outs: &mut [u32],
+    stops: bool,
 ) -> Going
     requires { ⌜ At (now program) (now pins) (now inputs) (point g (now regs) (cache (now full) (now dirty) (now block) (now words))
         (now store)) (now bytes) (now outs)
@@ -159,7 +183,7 @@ fn begin(
         (now (bytes .entry)) (now (outs .entry))
         (point r (now (regs .exit)) (cache (now (full .exit)) (now (dirty .exit)) (now (block .exit)) (now (words .exit)))
         (now (store .exit)))
-        (now (bytes .exit)) (now (outs .exit)) × (g .at < r .at) ⌝ }
+        (now (bytes .exit)) (now (outs .exit)) × Did stops (g .at) (r .at) (now (bytes .entry)) (now (bytes .exit)) ⌝ }
 {
     let at = g.at;
     let op = w / 0x4000 % 16;
@@ -192,8 +216,12 @@ fn begin(
             inputs,
             bytes,
             outs,
+            stops,
         ),
         13 => {
+            if store_waits(stops, g.scalars, regs, w, store.len() as u64) {
+                return g;
+            }
             let r = first::first_store(
                 g.scalars,
                 regs,
@@ -254,7 +282,8 @@ fn at_rest(g: Going) -> Going
     }
 }
 
-// Instruction after instruction, until a clock is held or takes an interrupt, one is left in flight, or the line bytes end.
+// Instruction after instruction, until a clock is held or takes an interrupt, one is left in flight, or the line bytes end; if the run
+// stops before an access to a device, until that is next.
 pub fn ready_turn(
     g: Going,
     program: &[u32],
@@ -268,6 +297,7 @@ pub fn ready_turn(
     inputs: &[u32],
     bytes: &mut [u8],
     outs: &mut [u32],
+    stops: bool,
 ) -> Going
     requires { ⌜ At (now program) (now pins) (now inputs) (point g (now regs) (cache (now full) (now dirty) (now block) (now words))
         (now store)) (now bytes) (now outs) × Begins (now pins) g ⌝ }
@@ -277,7 +307,7 @@ pub fn ready_turn(
         (now (bytes .entry)) (now (outs .entry))
         (point r (now (regs .exit)) (cache (now (full .exit)) (now (dirty .exit)) (now (block .exit)) (now (words .exit)))
         (now (store .exit)))
-        (now (bytes .exit)) (now (outs .exit)) × (g .at < r .at) ⌝ }
+        (now (bytes .exit)) (now (outs .exit)) × Did stops (g .at) (r .at) (now (bytes .entry)) (now (bytes .exit)) ⌝ }
 {
     let mut h = at_rest(g);
     while h.at < pins.len() {
@@ -304,7 +334,11 @@ pub fn ready_turn(
             inputs,
             bytes,
             outs,
+            stops,
         );
+        if h.at == at {
+            return h; // the next clock writes to a device
+        }
         if h.scalars.running.phase != 0 {
             return h;
         }

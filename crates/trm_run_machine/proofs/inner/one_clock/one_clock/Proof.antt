@@ -32,18 +32,20 @@ array-read-t38 c = search needs
 
 same-length : tie.Need-same-length
 same-length c =
+    let c-all-turns = c .before .before .before .before .before .all-turns in
     let s = c .before .before .before .before .before .before .before .before .before .before .before .before .before .before .before
     .before .before .before in
-    c .before .before .before .before .before .all-turns .ensures .0 _ (begun _ _ _ _ _ _ _ _ (one-free _ _ _ _ _ 0 0 (s .pre .0))
+    c-all-turns .ensures .0 _ (begun _ _ _ _ _ _ _ _ (one-free _ _ _ _ _ 0 0 (s .pre .0))
     (s .pre .1) refl refl) .long
 
 returns : tie.Need-returns
 returns c =
+    let c-all-turns = c .before .before .before .before .before .all-turns in
     let s = c .before .before .before .before .before .before .before .before .before .before .before .before .before .before .before
     .before .before .before in
-    one-ran _ _ _ _ _ _ _ _ (reached-end _ _ _ _ _ _ _ (c .before .before .before .before .before .all-turns .ensures .0 _
+    one-ran _ _ _ _ _ _ _ _ (reached-end _ _ _ _ _ _ _ (c-all-turns .ensures .0 _
     (begun _ _ _ _ _ _ _ _
-    (one-free _ _ _ _ _ 0 0 (s .pre .0)) (s .pre .1) refl refl)) (c .before .before .before .before .before .all-turns .ensures .1))
+    (one-free _ _ _ _ _ 0 0 (s .pre .0)) (s .pre .1) refl refl)) (c-all-turns .ensures .1 refl))
 
 pub one-clock-spec : {M : Type 1} → statement M
 one-clock-spec =

@@ -1,10 +1,10 @@
 use native.Mathlib.Omega.{arith}
 use borrow.Author.Tests.{not-true, not-false}
 use Rattle.trm_run_phases.proofs.Laws.Next.{under-at, long-turned}
-use Rattle.trm_run_machine.proofs.Laws.Flight.{none-due, more-there, good-there, room-there, ended-there}
+use Rattle.trm_run_flight.proofs.Laws.Flight.{none-due, more-there, good-there, room-there, ended-there}
 use borrow.Author.Needs.{needs}
-use Rattle.trm_run_machine.proofs.inner.flight_turn.write_turn.Statement.{statement}
-use Rattle.trm_run_machine.proofs.inner.flight_turn.write_turn.Tie as tie
+use Rattle.trm_run_flight.proofs.inner.flight_turn.write_turn.Statement.{statement}
+use Rattle.trm_run_flight.proofs.inner.flight_turn.write_turn.Tie as tie
 
 write-ahead-requires : tie.Need-write-ahead-requires
 write-ahead-requires c κs =
@@ -94,8 +94,8 @@ same-length-2 c =
     let e = c .before .before .before .before .went .ensures in
     long-turned _ _ _ _ _ _ _ _ _ (pre .0) (ended-there _ _ _ _ _ _ _ _ _ _ (pre .0) (pre .1) _ _ _ (m .0) (m .1) _ (d .ensures)
     (not-false (d .result) (i .left)) (λ z. omega (arith, m .2, z)) _ _ _ _
-    (c .before .before .before .before .before .before .before .before .before .end-write .ensures) (m .3) _ _ _ (e .0) (e .1)
-    (e .2) .0) .store
+    (c .before .before .before .before .before .before .before .before .before .end-write .ensures) (λ z. omega (arith, m .2, z)) (m .3)
+    _ _ _ (e .0) (e .1) (e .2) .0) .store
 
 same-length-3 : tie.Need-same-length-3
 same-length-3 c = search needs
@@ -117,7 +117,7 @@ returns-2 c =
     let e = c .before .before .before .before .went .ensures in
     ended-there _ _ _ _ _ _ _ _ _ _ (pre .0) (pre .1) _ _ _ (m .0) (m .1) _ (d .ensures) (not-false (d .result) (i .left))
     (λ z. omega (arith, m .2, z)) _ _ _ _ (c .before .before .before .before .before .before .before .before .before .end-write
-    .ensures) (m .3) _ _ _ (e .0) (e .1) (e .2)
+    .ensures) (λ z. omega (arith, m .2, z)) (m .3) _ _ _ (e .0) (e .1) (e .2)
 
 pub write-turn-spec : {M : Type 1} → statement M
 write-turn-spec =

@@ -3,15 +3,17 @@
 // A function for each phase, so that each is compiled with its own loop (P-29); one law proves them (Laws.Flight).
 ghost use mathlib.Core.Path.{_≡_};
 ghost use mathlib.Core.Logic.{_≢_};
-ghost use mathlib.Core.Bool.{false};
+ghost use mathlib.Core.Bool.{false, _&&_};
 ghost use Prim.Native.Nat.{_<_};
 ghost use lib.ListN.{length, getD};
 ghost use Rattle.trm_word.specs.Charge.{charges};
 ghost use Rattle.trm_reference.specs.Visible.{wordAt};
+ghost use Rattle.trm_reference.specs.Access.{isLoad};
 ghost use Rattle.trm_reference.specs.Interrupt.{stalled};
 ghost use Rattle.trm_cache.specs.Cache.{cache};
-ghost use Rattle.trm_run_phases.specs.Reached.{point, At, Turned};
+ghost use Rattle.trm_run_phases.specs.Reached.{point, At, Turned, Did};
 use trm_clock_ends::inner::word_ends;
+use trm_clock_operands::inner::operands;
 use trm_clock_phases::inner::phase_ends;
 use trm_run_phases::inner::going;
 use trm_run_phases::inner::going::Going;
@@ -45,7 +47,7 @@ fn step_turn(
         (now (bytes .entry)) (now (outs .entry))
         (point r (now (regs .exit)) (cache (now (full .exit)) (now (dirty .exit)) (now (block .exit)) (now (words .exit)))
         (now (store .exit)))
-        (now (bytes .exit)) (now (outs .exit)) × (g .at < r .at) ⌝ }
+        (now (bytes .exit)) (now (outs .exit)) × (g .at < r .at) × (now (bytes .exit) ≡ now (bytes .entry)) ⌝ }
 {
     let h = step_clocks::steps_ahead(g, regs, full, dirty, block, words, store, w, pins, base);
     let at = h.at;
@@ -92,7 +94,7 @@ fn write_turn(
         (now (bytes .entry)) (now (outs .entry))
         (point r (now (regs .exit)) (cache (now (full .exit)) (now (dirty .exit)) (now (block .exit)) (now (words .exit)))
         (now (store .exit)))
-        (now (bytes .exit)) (now (outs .exit)) × (g .at < r .at) ⌝ }
+        (now (bytes .exit)) (now (outs .exit)) × (g .at < r .at) × (now (bytes .exit) ≡ now (bytes .entry)) ⌝ }
 {
     let h = phase_clocks::write_ahead(g, regs, full, dirty, block, words, store, w, pins);
     let at = h.at;
@@ -139,7 +141,7 @@ fn fill_turn(
         (now (bytes .entry)) (now (outs .entry))
         (point r (now (regs .exit)) (cache (now (full .exit)) (now (dirty .exit)) (now (block .exit)) (now (words .exit)))
         (now (store .exit)))
-        (now (bytes .exit)) (now (outs .exit)) × (g .at < r .at) ⌝ }
+        (now (bytes .exit)) (now (outs .exit)) × (g .at < r .at) × (now (bytes .exit) ≡ now (bytes .entry)) ⌝ }
 {
     let h = phase_clocks::fill_ahead(g, regs, full, dirty, block, words, store, w, pins);
     let at = h.at;
@@ -187,7 +189,7 @@ fn wait_turn(
         (now (bytes .entry)) (now (outs .entry))
         (point r (now (regs .exit)) (cache (now (full .exit)) (now (dirty .exit)) (now (block .exit)) (now (words .exit)))
         (now (store .exit)))
-        (now (bytes .exit)) (now (outs .exit)) × (g .at < r .at) ⌝ }
+        (now (bytes .exit)) (now (outs .exit)) × (g .at < r .at) × (now (bytes .exit) ≡ now (bytes .entry)) ⌝ }
 {
     let h = phase_clocks::wait_ahead(g, regs, full, dirty, block, words, store, w, pins, base);
     let at = h.at;
@@ -208,7 +210,17 @@ fn wait_turn(
     going::went(h, r, bytes, outs)
 }
 
-// Phase 5: the last clock.
+// Whether the word is a load, in a run that stops before an access to a device.
+fn load_waits(stops: bool, w: u32) -> bool
+    ensures { λ r. ⌜ r ≡ (stops && isLoad w) ⌝ }
+{
+    if !stops {
+        return false;
+    }
+    operands::is_load(w)
+}
+
+// Phase 5: the last clock. A run that stops before an access to a device leaves that of every LD to its caller.
 fn last_turn(
     g: Going,
     program: &[u32],
@@ -223,6 +235,7 @@ fn last_turn(
     inputs: &[u32],
     bytes: &mut [u8],
     outs: &mut [u32],
+    stops: bool,
 ) -> Going
     requires { ⌜ At (now program) (now pins) (now inputs) (point g (now regs) (cache (now full) (now dirty) (now block) (now words))
         (now store)) (now bytes) (now outs)
@@ -236,8 +249,11 @@ fn last_turn(
         (now (bytes .entry)) (now (outs .entry))
         (point r (now (regs .exit)) (cache (now (full .exit)) (now (dirty .exit)) (now (block .exit)) (now (words .exit)))
         (now (store .exit)))
-        (now (bytes .exit)) (now (outs .exit)) × (g .at < r .at) ⌝ }
+        (now (bytes .exit)) (now (outs .exit)) × Did stops (g .at) (r .at) (now (bytes .entry)) (now (bytes .exit)) ⌝ }
 {
+    if load_waits(stops, w) {
+        return g;
+    }
     let at = g.at;
     let r = word_ends::last_clock(
         g.scalars,
@@ -269,6 +285,7 @@ pub fn flight_turn(
     bytes: &mut [u8],
     outs: &mut [u32],
     base: &[u64; 16],
+    stops: bool,
 ) -> Going
     requires { ⌜ At (now program) (now pins) (now inputs) (point g (now regs) (cache (now full) (now dirty) (now block) (now words))
         (now store)) (now bytes) (now outs)
@@ -280,7 +297,7 @@ pub fn flight_turn(
         (now (bytes .entry)) (now (outs .entry))
         (point r (now (regs .exit)) (cache (now (full .exit)) (now (dirty .exit)) (now (block .exit)) (now (words .exit)))
         (now (store .exit)))
-        (now (bytes .exit)) (now (outs .exit)) × (g .at < r .at) ⌝ }
+        (now (bytes .exit)) (now (outs .exit)) × Did stops (g .at) (r .at) (now (bytes .entry)) (now (bytes .exit)) ⌝ }
 {
     let phase = g.scalars.running.phase;
     match phase {
@@ -360,6 +377,7 @@ pub fn flight_turn(
             inputs,
             bytes,
             outs,
+            stops,
         ),
     }
 }

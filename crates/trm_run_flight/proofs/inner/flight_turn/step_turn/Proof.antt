@@ -1,15 +1,15 @@
 use native.Mathlib.Omega.{arith}
 use borrow.Author.Tests.{not-true, not-false}
 use Rattle.trm_run_phases.proofs.Laws.Next.{under-at}
-use Rattle.trm_run_machine.proofs.Laws.Flight.{none-due, more-there, good-there, room-there, ended-there}
+use Rattle.trm_run_flight.proofs.Laws.Flight.{none-due, more-there, good-there, room-there, ended-there}
 use borrow.Author.Needs.{needs}
-use Rattle.trm_run_machine.proofs.inner.flight_turn.fill_turn.Statement.{statement}
-use Rattle.trm_run_machine.proofs.inner.flight_turn.fill_turn.Tie as tie
+use Rattle.trm_run_flight.proofs.inner.flight_turn.step_turn.Statement.{statement}
+use Rattle.trm_run_flight.proofs.inner.flight_turn.step_turn.Tie as tie
 
-fill-ahead-requires : tie.Need-fill-ahead-requires
-fill-ahead-requires c κs =
+steps-ahead-requires : tie.Need-steps-ahead-requires
+steps-ahead-requires c κs =
     let pre = c .before .before .before .before .before .before .before .before .before .before .before .before .pre in
-    (under-at _ _ _ _ _ _ _ (pre .0) (pre .1), pre .2)
+    (under-at _ _ _ _ _ _ _ (pre .0) (pre .1), pre .2, pre .5)
 
 due-requires : tie.Need-due-requires
 due-requires c κs = search needs
@@ -21,17 +21,17 @@ returns : tie.Need-returns
 returns c =
     let pre = c .before .before .before .before .before .before .before .before .before .before .before .before .before .before
     .before .pre in
-    let m = c .before .before .fill-ahead .ensures in
+    let m = c .before .before .steps-ahead .ensures in
     let d = c .before .due in
     let i = c .if1 in
     none-due _ _ _ _ _ _ _ _ _ _ (pre .0) (pre .1) _ _ _ (m .0) (m .1) _ (d .ensures) (m .3) (pre .3) (pre .4) (not-true (d .result)
     (i .taken))
 
-mul-end-fill : tie.Need-mul-end-fill
-mul-end-fill c =
+mul-end-steps : tie.Need-mul-end-steps
+mul-end-steps c =
     let pre = c .before .before .before .before .before .before .before .before .before .before .before .before .before .before
     .before .before .before .before .before .before .before .pre in
-    let m = c .before .before .before .before .before .before .before .before .fill-ahead .ensures in
+    let m = c .before .before .before .before .before .before .before .before .steps-ahead .ensures in
     let d = c .before .before .before .before .before .before .before .due in
     let i = c .before .before .before .before .before .before .if1 in
     omega (
@@ -41,11 +41,11 @@ mul-end-fill c =
       pre .0 .so .feed .many,
     )
 
-shared-slice-read-end-fill : tie.Need-shared-slice-read-end-fill
-shared-slice-read-end-fill c =
+shared-slice-read-end-steps : tie.Need-shared-slice-read-end-steps
+shared-slice-read-end-steps c =
     let pre = c .before .before .before .before .before .before .before .before .before .before .before .before .before .before
     .before .before .before .before .before .before .before .before .pre in
-    let m = c .before .before .before .before .before .before .before .before .before .fill-ahead .ensures in
+    let m = c .before .before .before .before .before .before .before .before .before .steps-ahead .ensures in
     let d = c .before .before .before .before .before .before .before .before .due in
     let i = c .before .before .before .before .before .before .before .if1 in
     omega (
@@ -55,11 +55,11 @@ shared-slice-read-end-fill c =
       pre .0 .so .feed .fed,
     )
 
-end-fill-requires : tie.Need-end-fill-requires
-end-fill-requires c κs =
+end-steps-requires : tie.Need-end-steps-requires
+end-steps-requires c κs =
     let pre = c .before .before .before .before .before .before .before .before .before .before .before .before .before .before
     .before .before .before .before .before .before .before .before .pre in
-    let m = c .before .before .before .before .before .before .before .before .before .fill-ahead .ensures in
+    let m = c .before .before .before .before .before .before .before .before .before .steps-ahead .ensures in
     let d = c .before .before .before .before .before .before .before .before .due in
     let i = c .before .before .before .before .before .before .before .if1 in
     let due = (not-false (d .result) (i .left)) in (
@@ -74,11 +74,11 @@ went-requires c κs =
     let pre = c .before .before .before .before .before .before .before .before .before .before .before .before .before .before
     .before .before .before .before .before .before .before .before .before .before .before .before .before .pre in
     let m = c .before .before .before .before .before .before .before .before .before .before .before .before .before .before
-    .fill-ahead .ensures in
+    .steps-ahead .ensures in
     let d = c .before .before .before .before .before .before .before .before .before .before .before .before .before .due in
     let i = c .before .before .before .before .before .before .before .before .before .before .before .before .if1 in
     room-there _ _ _ _ _ _ _ _ _ _ (pre .0) (pre .1) _ _ _ (m .0) (m .1) _ (d .ensures) (not-false (d .result) (i .left))
-    (λ z. omega (arith, m .2, z)) _ _ _ _ (c .before .before .before .before .end-fill .ensures)
+    (λ z. omega (arith, m .2, z)) _ _ _ _ (c .before .before .before .before .end-steps .ensures)
 
 same-length-2 : tie.Need-same-length-2
 same-length-2 c = search needs
@@ -95,27 +95,27 @@ returns-2 c =
     .before .before .before .before .before .before .before .before .before .before .before .before .before .before .before
     .before .before .before .pre in
     let m = c .before .before .before .before .before .before .before .before .before .before .before .before .before .before .before
-    .before .before .before .before .fill-ahead .ensures in
+    .before .before .before .before .steps-ahead .ensures in
     let d = c .before .before .before .before .before .before .before .before .before .before .before .before .before .before .before
     .before .before .before .due in
     let i = c .before .before .before .before .before .before .before .before .before .before .before .before .before .before .before
     .before .before .if1 in
     let e = c .before .before .before .before .went .ensures in
     ended-there _ _ _ _ _ _ _ _ _ _ (pre .0) (pre .1) _ _ _ (m .0) (m .1) _ (d .ensures) (not-false (d .result) (i .left))
-    (λ z. omega (arith, m .2, z)) _ _ _ _ (c .before .before .before .before .before .before .before .before .before .end-fill
-    .ensures) (m .3) _ _ _ (e .0) (e .1) (e .2)
+    (λ z. omega (arith, m .2, z)) _ _ _ _ (c .before .before .before .before .before .before .before .before .before .end-steps
+    .ensures) (λ z. omega (arith, m .2, z)) (m .3) _ _ _ (e .0) (e .1) (e .2)
 
-pub fill-turn-spec : {M : Type 1} → statement M
-fill-turn-spec =
+pub step-turn-spec : {M : Type 1} → statement M
+step-turn-spec =
     tie.close
     (tie.spec
-    fill-ahead-requires
+    steps-ahead-requires
     due-requires
     same-length
     returns
-    mul-end-fill
-    shared-slice-read-end-fill
-    end-fill-requires
+    mul-end-steps
+    shared-slice-read-end-steps
+    end-steps-requires
     went-requires
     same-length-2
     same-length-3

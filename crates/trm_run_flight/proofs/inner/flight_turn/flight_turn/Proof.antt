@@ -1,6 +1,7 @@
+use Rattle.trm_run_flight.proofs.Laws.Flight.{quiet-turn}
 use borrow.Author.Needs.{needs}
-use Rattle.trm_run_machine.proofs.inner.flight_turn.flight_turn.Statement.{statement}
-use Rattle.trm_run_machine.proofs.inner.flight_turn.flight_turn.Tie as tie
+use Rattle.trm_run_flight.proofs.inner.flight_turn.flight_turn.Statement.{statement}
+use Rattle.trm_run_flight.proofs.inner.flight_turn.flight_turn.Tie as tie
 
 step-turn-requires : tie.Need-step-turn-requires
 step-turn-requires c κs =
@@ -61,7 +62,7 @@ same-length-3 : tie.Need-same-length-3
 same-length-3 c = search needs
 
 returns : tie.Need-returns
-returns c = c .before .before .before .before .before .before .step-turn .ensures
+returns c = quiet-turn _ _ _ _ _ (c .before .before .before .before .before .before .step-turn .ensures)
 
 same-length-4 : tie.Need-same-length-4
 same-length-4 c = search needs
@@ -73,7 +74,7 @@ same-length-6 : tie.Need-same-length-6
 same-length-6 c = search needs
 
 returns-2 : tie.Need-returns-2
-returns-2 c = c .before .before .before .before .before .before .write-turn .ensures
+returns-2 c = quiet-turn _ _ _ _ _ (c .before .before .before .before .before .before .write-turn .ensures)
 
 same-length-7 : tie.Need-same-length-7
 same-length-7 c = search needs
@@ -85,7 +86,7 @@ same-length-9 : tie.Need-same-length-9
 same-length-9 c = search needs
 
 returns-3 : tie.Need-returns-3
-returns-3 c = c .before .before .before .before .before .before .fill-turn .ensures
+returns-3 c = quiet-turn _ _ _ _ _ (c .before .before .before .before .before .before .fill-turn .ensures)
 
 same-length-10 : tie.Need-same-length-10
 same-length-10 c = search needs
@@ -97,7 +98,7 @@ same-length-12 : tie.Need-same-length-12
 same-length-12 c = search needs
 
 returns-4 : tie.Need-returns-4
-returns-4 c = c .before .before .before .before .before .before .wait-turn .ensures
+returns-4 c = quiet-turn _ _ _ _ _ (c .before .before .before .before .before .before .wait-turn .ensures)
 
 same-length-13 : tie.Need-same-length-13
 same-length-13 c = search needs

@@ -1,0 +1,2 @@
+-- The law of a turn with a word in flight.
+pub mod Flight
