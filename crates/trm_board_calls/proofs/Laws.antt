@@ -5,4 +5,5 @@ pub mod Ready
 pub mod Clock
 pub mod Run
 pub mod One
+pub mod Lines
 pub mod Ahead

@@ -1,7 +1,6 @@
 // How many clocks of the core can go together before its devices follow.
 // Request A1: "The tick is interrupt 0 and rises whenever the clock count comes to a multiple of 116,600": the core's line byte has the
 // tick in bit 0, so a stretch ends with the clock in which the tick can rise.
-ghost use mathlib.Core.Path.{_≡_};
 ghost use Prim.Native.Nat.{_+_, _%_, _≤_};
 
 // The smaller of two numbers.

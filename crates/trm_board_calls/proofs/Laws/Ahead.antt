@@ -1,22 +1,17 @@
 -- Clocks without an answer: the core is ahead of the devices, which follow clock by clock.
 -- Idea: a clock with answer byte 0 reads no device, so the input word 0 is what the board feeds it; while the tick does not change, the
 -- line bytes are those that were laid out before.
---   lines-count, lines-next   the line bytes of some clocks        able-from, coming-from   the core may go ahead, and has gone
+--   able-from, coming-from   the core may go ahead, and has gone
 --   coming-on, coming-ends   one clock of the devices, and the last one done
-use Prim.Native.Nat.{ℕ, zero, suc, _+_, _*_, _-_, _/_, _%_, _≤_, _<_}
+use Prim.Native.Nat.{ℕ, suc, _+_, _-_, _%_, _≤_, _<_}
 use mathlib.Core.Path.{_≡_, refl, sym, ap, subst, _∙_}
-use mathlib.Core.Logic.{_≢_}
-use mathlib.Core.Bool.{Bool, true, false, cond, _&&_}
-use mathlib.Core.List.{List, [], _∷_, _++_}
-use lib.ListN.{length, getD, take, drop, set, replicate, length-drop}
-use lib.Seq.{drop-cons, take-take, take-suc, take-suc-set, getD-drop, length-take-le}
-use lib.Dec.{eqb, leb}
-use borrow.Author.Tests.{ne-eqb, le-leb}
-use native.Mathlib.Nat.{le-of-suc-le-suc}
-use native.Mathlib.Decide.{ℕ-discrete}
+use mathlib.Core.Bool.{Bool, cond}
+use mathlib.Core.List.{List, [], _∷_}
+use lib.ListN.{length, getD, take, drop, set}
+use lib.Seq.{drop-cons, take-take}
+use borrow.Author.Tests.{ne-eqb}
 use native.Mathlib.Numerals.{add-one}
 use native.Mathlib.Omega.{arith}
-use Rattle.trm_laws.proofs.Tests.{_&t_}
 use Rattle.trm_reference.specs.Geometry.{paperGeometry}
 use Rattle.trm_reference.specs.Access.{Answer}
 use Rattle.trm_reference.specs.Trace.{After, clocks, endOf, outsOf, finishedIn}
@@ -34,48 +29,9 @@ use Rattle.trm_board.specs.Core.{pins, asked}
 use Rattle.trm_board.specs.Board.{Inputs, inputsOf, Board, Shown, reply, lineByte, lineIn, tickAfter, devicesClock}
 use Rattle.trm_board.specs.Board.{fed, coreClock, boardClock}
 use Rattle.trm_board_calls.specs.Cores.{recordCore}
-use Rattle.trm_board_calls.specs.Coded.{Ready}
 use Rattle.trm_board_calls.specs.Running.{Stage, stage, Running, lineFor, linesOf, Coming}
 use Rattle.trm_board_calls.proofs.Laws.Run.{running-on}
-
--- line bytes
-
-lines-take : (tick j : ℕ) (gs : List ℕ) → take j (linesOf tick gs) ≡ linesOf tick (take j gs)
-unfolding linesOf
-lines-take tick zero gs = refl
-lines-take tick (suc j) [] = refl
-lines-take tick (suc j) (g ∷ gs) = ap (λ t. lineFor tick g ∷ t) (lines-take tick j gs)
-
-lines-low : (tick : ℕ) (gs : List ℕ) → tick ≤ 1 → allAtMost 7 (linesOf tick gs) ≡ true
-unfolding linesOf allAtMost
-lines-low tick [] h = refl
-lines-low tick (g ∷ gs) h = le-leb (lineFor tick g) 7 (omega arith) &t lines-low tick gs h
-
-lines-length : (tick : ℕ) (gs : List ℕ) → length (linesOf tick gs) ≡ length gs
-unfolding linesOf
-lines-length tick [] = refl
-lines-length tick (g ∷ gs) = ap suc (lines-length tick gs)
-
--- there are as many as clocks
-pub lines-count : (tick at k : ℕ) (gs ls : List ℕ) → at + k ≤ length gs → ls ≡ linesOf tick (take k (drop at gs)) → k ≡ length ls
-lines-count tick at k gs ls below e = sym (ap length e ∙ lines-length tick (take k (drop at gs))
-    ∙ length-take-le k (drop at gs) (omega (arith, length-drop at gs, below)))
-
-lines-more : (tick : ℕ) (gs : List ℕ) (g : ℕ) → linesOf tick (gs ++ g ∷ [])
-    ≡ linesOf tick gs ++ lineFor tick g ∷ []
-unfolding linesOf
-lines-more tick [] g = refl
-lines-more tick (h ∷ gs) g = ap (λ t. lineFor tick h ∷ t) (lines-more tick gs g)
-
--- one line byte more
-pub lines-next : (tick at i : ℕ) (gs ls : List ℕ) (l : ℕ) → at + i < length gs → i < length ls
-    → take i ls ≡ linesOf tick (take i (drop at gs)) → l ≡ lineFor tick (getD gs (at + i) 0)
-    → take (i + 1) (set ls i l) ≡ linesOf tick (take (i + 1) (drop at gs))
-lines-next tick at i gs ls l below fits e q = ap (λ n. take n (set ls i l)) (add-one i) ∙ take-suc-set ls i l fits
-    ∙ ap (λ t. t ++ l ∷ []) e ∙ ap (λ n. linesOf tick (take i (drop at gs)) ++ n ∷ []) (q ∙ ap (lineFor tick) (sym (getD-drop at gs i 0)))
-    ∙ sym (lines-more tick (take i (drop at gs)) (getD (drop at gs) i 0))
-    ∙ ap (linesOf tick) (sym (take-suc (drop at gs) i 0 (omega (arith, length-drop at gs, below))))
-    ∙ ap (λ n. linesOf tick (take n (drop at gs))) (sym (add-one i))
+use Rattle.trm_board_calls.proofs.Laws.Lines.{lines-take, lines-low, lines-count, lines-same}
 
 -- the first of some clocks without an answer, and the others
 module _ (p : List ℕ) (l : ℕ) (ls : List ℕ) (x y : Lent) (fin : ℕ) (s : Silent p (l ∷ ls) x y fin) where
@@ -145,10 +101,6 @@ module _ (p : List ℕ) (x : Lent) (d : Devices) (joined : Bool) (g w : ℕ) whe
 tick-same : (count tick : ℕ) → count % 116600 + 2 ≤ 116600 → tickAfter paperTiming (count + 1) 0 tick ≡ tick
 unfolding tickAfter
 tick-same count tick h = rw (ne-eqb ((count + 1) % 116600) 0 (λ e. omega (arith, h, e)))
-
-lines-same : (a b : ℕ) (n : ℕ) (gs : List ℕ) → (n ≢ 0 → a ≡ b) → linesOf a (take n gs) ≡ linesOf b (take n gs)
-lines-same a b zero gs e = unfold linesOf in refl
-lines-same a b (suc n) gs e = ap (λ t. linesOf t (take (suc n) gs)) (e (λ z. omega (arith, z)))
 
 module _ (p : List ℕ) (joined : Bool) (gs ws : List ℕ) (q₀ : Stage) where
   -- the core may go ahead
@@ -234,29 +186,53 @@ module _ (p : List ℕ) (joined : Bool) (gs ws : List ℕ) (q₀ : Stage) where
       abbrev g : ℕ
       g = getD gs at 0
 
-      pub inside : at < length gs
+      inside : at < length gs
       inside = omega (arith, less, c .below)
+
+      -- the core's clock, the devices after it, and the line bytes of the clocks that are left
+      abbrev after : After Lent Answer
+      after = v p (c .core) d joined g (getD ws at 0)
+
+      abbrev followed : Devices
+      followed = devicesClock paperTiming (lineIn paperTiming (d .serial) (inputsOf joined g (getD ws at 0)))
+          (c .core .machine .scalars .counts .clocks + 1) 0 0 d
+
+      abbrev others : List ℕ
+      others = linesOf (d .tick) (take (to - (at + 1)) (drop (at + 1) gs))
+
+      abbrev next : Devices → ℕ → Stage
+      next b sent = stage (record { core = after .state; devices = b }) (c .finished + after .out .done) (at + 1) (set lv at sent)
+          (set bs at 0) (set os at 0)
+
+      abbrev quiet-left : ℕ
+      quiet-left = finishedIn (outsOf (zeroClocks p others (after .state)))
+
+      now : Silent p (lineFor (d .tick) g ∷ others) (c .core) y (c .left)
+      now = subst (λ l. Silent p l (c .core) y (c .left)) first (c .silent)
+        where
+          step : to - at ≡ suc (to - (at + 1))
+          step = omega (arith, less)
+
+          first : linesOf (d .tick) (take (to - at) (drop at gs)) ≡ lineFor (d .tick) g ∷ others
+          first = ap (λ n. linesOf (d .tick) (take n (drop at gs))) step
+              ∙ ap (λ l. linesOf (d .tick) (take (suc (to - (at + 1))) l)) (drop-cons gs at 0 inside)
+              ∙ unfold linesOf in (ap (λ n. lineFor (d .tick) g ∷ linesOf (d .tick) (take (to - (at + 1)) (drop n gs))) (sym (add-one at)))
+
+      next-runs : Running p joined gs ws q₀ (next followed (level paperTiming (d .serial)))
+      next-runs = running-on p joined gs ws q₀ (record { core = c .core; devices = d }) (c .finished) at lv bs os (c .so) inside
+          (shown p (c .core) d joined g (getD ws at 0) (c .core .machine .scalars .counts .clocks + 1) 0 0)
+          (quiet-is p (c .core) d joined g (getD ws at 0) (head-mute p (lineFor (d .tick) g) others (c .core) y (c .left) now))
 
       pub coming-on : (sent line : ℕ) → sent ≡ level paperTiming (d .serial) → line ≡ cond joined sent (g % 2)
           → (d′ : Devices) → d′ ≡ devicesClock paperTiming line (count + 1) 0 0 d
           → Coming p joined gs ws q₀ y total to d′ (count + 1) (at + 1) (set lv at sent) (set bs at 0) (set os at 0)
       coming-on sent line es el d′ ed = record {
-        core = v p (c .core) d joined g (getD ws at 0) .state;
-        finished = c .finished + v p (c .core) d joined g (getD ws at 0) .out .done;
-        left = finishedIn (outsOf (zeroClocks p others (v p (c .core) d joined g (getD ws at 0) .state)));
-        so = subst (λ b. Running p joined gs ws q₀ (stage (record {
-          core = v p (c .core) d joined g (getD ws at 0) .state;
-          devices = b;
-        }) (c .finished + v p (c .core) d joined g (getD ws at 0) .out .done) (at + 1) (set lv at sent) (set bs at 0) (set os at 0)))
-            (sym devices-are)
-            (subst (λ n. Running p joined gs ws q₀ (stage (record {
-              core = v p (c .core) d joined g (getD ws at 0) .state;
-              devices = devicesClock paperTiming (lineIn paperTiming (d .serial) (inputsOf joined g (getD ws at 0)))
-                  (c .core .machine .scalars .counts .clocks + 1) 0 0 d;
-            }) (c .finished + v p (c .core) d joined g (getD ws at 0) .out .done) (at + 1) (set lv at n) (set bs at 0) (set os at 0)))
-            (sym es) next);
-        silent = subst (λ l. Silent p l (v p (c .core) d joined g (getD ws at 0) .state) y
-            (finishedIn (outsOf (zeroClocks p others (v p (c .core) d joined g (getD ws at 0) .state))))) (sym tick-lines)
+        core = after .state;
+        finished = c .finished + after .out .done;
+        left = quiet-left;
+        so = subst (λ b. Running p joined gs ws q₀ (next b sent)) (sym devices-are)
+            (subst (λ n. Running p joined gs ws q₀ (next followed n)) (sym es) next-runs);
+        silent = subst (λ l. Silent p l (after .state) y quiet-left) (sym tick-lines)
             (tail-silent p (lineFor (d .tick) g) others (c .core) y (c .left) now);
         sum = omega (arith, c .sum, head-done p (lineFor (d .tick) g) others (c .core) y (c .left) now);
         counted = omega (arith, c .counted, clock-adds p (c .core) (pins (lineFor (d .tick) g) 0) .adds);
@@ -265,35 +241,10 @@ module _ (p : List ℕ) (joined : Bool) (gs ws : List ℕ) (q₀ : Stage) where
         below = c .below;
       }
         where
-          others : List ℕ
-          others = linesOf (d .tick) (take (to - (at + 1)) (drop (at + 1) gs))
-
-          first : linesOf (d .tick) (take (to - at) (drop at gs)) ≡ lineFor (d .tick) g ∷ others
-          first = ap (λ n. linesOf (d .tick) (take n (drop at gs))) step
-              ∙ ap (λ l. linesOf (d .tick) (take (suc (to - (at + 1))) l)) (drop-cons gs at 0 inside)
-              ∙ unfold linesOf in (ap (λ n. lineFor (d .tick) g ∷ linesOf (d .tick) (take (to - (at + 1)) (drop n gs))) (sym (add-one at)))
-            where
-              step : to - at ≡ suc (to - (at + 1))
-              step = omega (arith, less)
-
-          now : Silent p (lineFor (d .tick) g ∷ others) (c .core) y (c .left)
-          now = subst (λ l. Silent p l (c .core) y (c .left)) first (c .silent)
-
-          next : Running p joined gs ws q₀ (stage (record {
-            core = v p (c .core) d joined g (getD ws at 0) .state;
-            devices = devicesClock paperTiming (lineIn paperTiming (d .serial) (inputsOf joined g (getD ws at 0)))
-                (c .core .machine .scalars .counts .clocks + 1) 0 0 d;
-          }) (c .finished + v p (c .core) d joined g (getD ws at 0) .out .done) (at + 1) (set lv at (level paperTiming (d .serial)))
-              (set bs at 0) (set os at 0))
-          next = running-on p joined gs ws q₀ (record { core = c .core; devices = d }) (c .finished) at lv bs os (c .so) inside
-              (shown p (c .core) d joined g (getD ws at 0) (c .core .machine .scalars .counts .clocks + 1) 0 0)
-              (quiet-is p (c .core) d joined g (getD ws at 0) (head-mute p (lineFor (d .tick) g) others (c .core) y (c .left) now))
-
           line-is : line ≡ lineIn paperTiming (d .serial) (inputsOf joined g (getD ws at 0))
           line-is = unfold lineIn in (el ∙ ap (λ n. cond joined n (g % 2)) es)
 
-          devices-are : d′ ≡ devicesClock paperTiming (lineIn paperTiming (d .serial) (inputsOf joined g (getD ws at 0)))
-              (c .core .machine .scalars .counts .clocks + 1) 0 0 d
+          devices-are : d′ ≡ followed
           devices-are = ed ∙ ap (λ n. devicesClock paperTiming n (count + 1) 0 0 d) line-is
               ∙ ap (λ n. devicesClock paperTiming (lineIn paperTiming (d .serial) (inputsOf joined g (getD ws at 0))) (n + 1) 0 0 d)
               (c .counted)

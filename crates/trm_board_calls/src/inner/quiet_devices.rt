@@ -2,7 +2,6 @@
 // Request A1: "Devices run in held clocks too"; "rises whenever the clock count comes to a multiple of 116,600".
 // The core's line byte has the tick in bit 0, so such clocks go together only up to the next rise of the tick.
 ghost use mathlib.Core.Path.{_≡_};
-ghost use mathlib.Core.Bool.{Bool};
 ghost use mathlib.Core.List.{List};
 ghost use Prim.Native.Nat.{ℕ, _+_, _≤_};
 ghost use lib.ListN.{length, take, drop};

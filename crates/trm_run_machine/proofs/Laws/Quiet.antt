@@ -9,7 +9,7 @@ use lib.Seq.{take-at, length-take-le}
 use native.Mathlib.Nat.{le-of-suc-le-suc}
 use native.Mathlib.Omega.{arith}
 use Rattle.trm_reference.specs.Geometry.{paperGeometry}
-use Rattle.trm_reference.specs.Trace.{Pins, pinsOf, clocks, endOf, outsOf, finishedIn}
+use Rattle.trm_reference.specs.Trace.{pinsOf, clocks, endOf, outsOf, finishedIn}
 use Rattle.trm_core.specs.Record.{Lent}
 use Rattle.trm_core.specs.Clock.{clockOf}
 use Rattle.trm_core.specs.Run.{bytesOf}

@@ -1,11 +1,8 @@
 // Clocks on the parts of a record, in place, up to the next access to a device, which is left to the caller.
 // Paper: "a device is read or written only in that clock".
 // The caller asks for the device's word only then. No clock here has an answer, so its buffers and input words are local zeros.
-ghost use mathlib.Core.Path.{_≡_};
 ghost use Prim.Native.Nat.{_≤_};
 ghost use lib.ListN.{length, take};
-ghost use Rattle.trm_cache.specs.Cache.{cache};
-ghost use Rattle.trm_run_phases.specs.Reached.{point};
 ghost use Rattle.trm_run_machine.specs.Machine.{lent, parts};
 ghost use Rattle.trm_run_machine.specs.Quiet.{Silent, Able};
 use crate::inner::turns;

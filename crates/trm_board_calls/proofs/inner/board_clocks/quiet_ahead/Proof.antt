@@ -2,7 +2,8 @@
 use mathlib.Core.Path.{sym, _∙_}
 use native.Mathlib.Omega.{arith}
 use borrow.Author.Needs.{needs}
-use Rattle.trm_board_calls.proofs.Laws.Ahead.{lines-count, able-from, coming-from}
+use Rattle.trm_board_calls.proofs.Laws.Lines.{lines-count}
+use Rattle.trm_board_calls.proofs.Laws.Ahead.{able-from, coming-from}
 use Rattle.trm_board_calls.proofs.inner.board_clocks.quiet_ahead.Statement.{statement}
 use Rattle.trm_board_calls.proofs.inner.board_clocks.quiet_ahead.Tie as tie
 

@@ -5,7 +5,7 @@ use mathlib.Core.List.{List}
 use native.Mathlib.Omega.{arith}
 use Rattle.trm_core.specs.Record.{Lent}
 use Rattle.trm_board_calls.specs.Running.{Stage, Coming}
-use Rattle.trm_board_calls.proofs.Laws.Ahead.{inside, coming-on, coming-ends}
+use Rattle.trm_board_calls.proofs.Laws.Ahead.{coming-on, coming-ends}
 use Rattle.trm_board_calls.proofs.inner.quiet_devices.devices_ahead.Statement.{statement}
 use Rattle.trm_board_calls.proofs.inner.quiet_devices.devices_ahead.Tie as tie
 

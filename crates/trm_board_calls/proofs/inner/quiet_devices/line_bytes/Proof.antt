@@ -3,9 +3,8 @@ use Prim.Native.Nat.{_-_, _≤_}
 use mathlib.Core.Path.{_≡_, refl, subst, _∙_}
 use native.Mathlib.Omega.{arith}
 use lib.ListN.{length, take, drop, length-set}
-use borrow.Author.Needs.{needs}
 use Rattle.trm_board_calls.specs.Running.{linesOf}
-use Rattle.trm_board_calls.proofs.Laws.Ahead.{lines-next}
+use Rattle.trm_board_calls.proofs.Laws.Lines.{lines-next}
 use Rattle.trm_board_calls.proofs.inner.quiet_devices.line_bytes.Statement.{statement}
 use Rattle.trm_board_calls.proofs.inner.quiet_devices.line_bytes.Tie as tie
 

@@ -1,6 +1,5 @@
 -- The run begins with buffers and input words of zeros, and `all_turns` writes no answer (Laws/Quiet).
-use mathlib.Core.Path.{refl, sym, _∙_}
-use borrow.Author.Needs.{needs}
+use mathlib.Core.Path.{refl, _∙_}
 use Rattle.trm_run_machine.proofs.Laws.Quiet.{zeros-in, zeros-count, able-reached, silent-from}
 use Rattle.trm_run_machine.proofs.inner.quiet_clocks.quiet_clocks.Statement.{statement}
 use Rattle.trm_run_machine.proofs.inner.quiet_clocks.quiet_clocks.Tie as tie
