@@ -6,7 +6,6 @@ import sys
 sys.dont_write_bytecode = True
 from chance import Dice, good
 from image import held, program, run
-from listing import listing
 
 ON, OFF = 0x2C008, 0x2C000
 
@@ -38,16 +37,14 @@ def table():
         ''.join(f'{row}\n' for row in listed)
 
 
+# Random programs that print some tens of rows; by document 01 each took an interrupt and refilled a cache line. The seeds are written
+# down, so that the images stay when a request changes what some of them print.
+SEEDS = (16, 57, 63, 73, 87, 101, 128, 221, 263, 281, 324, 364, 405, 488, 498, 528)
+
+
 def by_chance():
-    """Random good programs that print some tens of rows, take interrupts and refill a cache line."""
-    seed, found = 0, 0
-    while found < 16:
-        seed += 1
-        image = good(Dice(seed))
-        text = listing(image)
-        if 20 <= text.count('\n') <= 90 and 'irq' in text and 'refills 0' not in text:
-            found += 1
-            yield f'S4.7-chance-{seed}', image, None
+    for seed in SEEDS:
+        yield f'S4.7-chance-{seed}', good(Dice(seed)), None
 
 
 PARTS = [sixteen_lines, table, by_chance]
