@@ -1,4 +1,4 @@
-// The published interrupt as a rule over document 01's machine, compared with the circuit with IRQ1 on Published.
+// The published interrupt as a rule over the paper's machine, compared with the circuit with IRQ1 on Published.
 // Source: "Interrupts". Paper: all but the interrupt rule, which is replaced by the two sentences at `sampled` and `Stage`.
 // It checks that IRQ1 is the only difference between the two, with NOPIRQ, ACKMASK, PSRIRQ and ACKLINE set aside.
 use circuit::{list, Image, Setting, Switch};
@@ -68,7 +68,7 @@ impl<'a> Rule<'a> {
         self.took = 0;
     }
 
-    /// One clock of document 01's machine; true if it ended a word.
+    /// One clock of the paper's machine; true if it ended a word.
     fn step(&mut self, line_byte: u8, input: u32) -> Result<bool, String> {
         let answer = raw::clock_value(&self.machine, self.program, &mut self.store, line_byte, input);
         if answer.number != 0 {

@@ -34,7 +34,7 @@ struct Group {
     name: &'static str,
     weight: &'static str,
     operation: u32,
-    /// The switches that are set on Document01; all others stay on Published.
+    /// The switches that are set on Paper; all others stay on Published.
     set_aside: &'static [Switch],
     /// With this switch on Published some pair must differ; otherwise the comparison is blind.
     control: Switch,
@@ -161,7 +161,7 @@ fn pair(group: &Group, switches: Switches, b: u32, a: u32) -> Result<u64, String
 }
 
 fn group(group: &Group, pairs: &[(u32, u32)]) -> bool {
-    let aside = |all: Switches, &switch: &Switch| all.with(switch, Setting::Document01);
+    let aside = |all: Switches, &switch: &Switch| all.with(switch, Setting::Paper);
     let switches = group.set_aside.iter().fold(Switches::all(Setting::Published), aside);
     let pairs: Vec<_> = pairs.iter().filter(|&&(b, a)| (group.takes)(b, a)).collect();
     let turned = switches.with(group.control, Setting::Published);

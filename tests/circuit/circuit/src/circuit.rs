@@ -84,9 +84,9 @@ impl Circuit {
         circuit
     }
 
-    /// The clock of the NOP after a reset, which is not counted with FILL on Document01.
+    /// The clock of the NOP after a reset, which is not counted with FILL on Paper.
     fn fill(&mut self) {
-        if self.switches.document01(Switch::Fill) {
+        if self.switches.paper(Switch::Fill) {
             self.clock(Pins::default());
         }
     }
@@ -127,9 +127,9 @@ impl Circuit {
         self.memory.edge(wires.request, wires.port, wires.held, on, &self.switches);
     }
 
-    /// What a reset clears in addition with RESET on Document01.
+    /// What a reset clears in addition with RESET on Paper.
     fn clear(&mut self) {
-        if self.switches.document01(Switch::Reset) {
+        if self.switches.paper(Switch::Reset) {
             (self.registers, self.flags, self.h) = ([0; 16], Flags::default(), 0);
             (self.multiplier, self.divider) = (Multiplier::default(), Divider::default());
             self.memory.cache = crate::cache::Cache::empty();

@@ -69,7 +69,7 @@ impl Circuit {
     }
 
     pub fn edge_stall1(&mut self, wires: &Wires) {
-        let held = wires.held && self.switches.document01(Switch::HoldLd);
+        let held = wires.held && self.switches.paper(Switch::HoldLd);
         if !held {
             let block_ram = wires.device || self.switches.published(Switch::Memory);
             self.stall1 = wires.op == crate::wires::LD && block_ram && !self.stall1;

@@ -36,7 +36,7 @@ impl Circuit {
     /// The flags after a register was written.
     fn flags_after(&self, wires: &Wires) -> Flags {
         let Flags { mut n, mut z, mut c, mut v } = self.flags;
-        let of_rotation = wires.op == ROR && self.switches.document01(Switch::RorNz);
+        let of_rotation = wires.op == ROR && self.switches.paper(Switch::RorNz);
         let result = if of_rotation { u64::from(wires.rotated) } else { wires.alu };
         if wires.op <= ROR || self.switches.published(Switch::Nz) {
             let looked_at = if self.switches.published(Switch::Z32) { result } else { result & 0xFFFF_FFFF };

@@ -14,7 +14,7 @@ pub struct Divider {
 
 /// Whether a divisor is at or below zero and document 01 applies.
 fn idle(y: u32, switches: &Switches) -> bool {
-    y as i32 <= 0 && switches.document01(Switch::DivNp)
+    y as i32 <= 0 && switches.paper(Switch::DivNp)
 }
 
 impl Divider {

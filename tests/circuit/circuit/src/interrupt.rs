@@ -1,6 +1,6 @@
 // The interrupt facility: sampling, intAck, intMd and the enables, with LDPSR and RTI.
 // Source: "Interrupts". Paper: the interrupt rule; switches NOPIRQ, PSRIRQ, ACKLINE, HOLDRTI and IRQ1.
-// The jump itself is in control.rs, the save in data.rs. `interrupt_line` is not in the source; ACKLINE on Document01 needs it.
+// The jump itself is in control.rs, the save in data.rs. `interrupt_line` is not in the source; ACKLINE on Paper needs it.
 use crate::circuit::{Circuit, Pins};
 use crate::switches::Switch;
 use crate::wires::Wires;
@@ -33,7 +33,7 @@ impl Circuit {
             true => self.ir == NEVER,
             false => self.bubble,
         };
-        let kept = wires.is_ldpsr(self.ir) && self.switches.document01(Switch::PsrIrq);
+        let kept = wires.is_ldpsr(self.ir) && self.switches.paper(Switch::PsrIrq);
         self.switches.published(Switch::Irq1)
             && self.enabled_line(pins).is_some()
             && !self.int_md
@@ -49,7 +49,7 @@ impl Circuit {
 
     pub fn edge_interrupt(&mut self, wires: &Wires, pins: &Pins) {
         let acknowledged = self.int_ack && !wires.stall0;
-        let waits = wires.held && self.switches.document01(Switch::HoldRti) || wires.own_stall;
+        let waits = wires.held && self.switches.paper(Switch::HoldRti) || wires.own_stall;
         if wires.take {
             self.int_md = true;
         } else if self.samples(wires, pins) {

@@ -134,12 +134,12 @@ mod tests {
     fn s4_11_the_papers_example() {
         let image = read(&BYTES).unwrap();
         assert_eq!(image.bytes(), BYTES);
-        assert_eq!(list(&image, Switches::all(Setting::Document01)).text, TEXT);
+        assert_eq!(list(&image, Switches::all(Setting::Paper)).text, TEXT);
     }
 
     #[test]
     fn the_published_circuit_agrees_once_its_first_nop_is_not_counted() {
-        let published = Switches::all(Setting::Published).with(Switch::Fill, Setting::Document01);
+        let published = Switches::all(Setting::Published).with(Switch::Fill, Setting::Paper);
         assert_eq!(list(&read(&BYTES).unwrap(), published).text, TEXT);
     }
 }

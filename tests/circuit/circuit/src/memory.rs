@@ -23,14 +23,12 @@ impl Memory {
 
     /// Whether local memory stalls the processor in this clock, in addition to stall1.
     pub fn stall(&self, request: Request, on: bool, switches: &Switches) -> bool {
-        switches.document01(Switch::Memory) && !self.cache.ends(request, on)
+        switches.paper(Switch::Memory) && !self.cache.ends(request, on)
     }
 
     pub fn loaded(&self, request: Request, on: bool, switches: &Switches) -> u32 {
         match request {
-            Request::Load(address) if switches.document01(Switch::Memory) => {
-                self.cache.loaded(&self.words, address, on)
-            }
+            Request::Load(address) if switches.paper(Switch::Memory) => self.cache.loaded(&self.words, address, on),
             _ => self.dmout,
         }
     }
@@ -41,7 +39,7 @@ impl Memory {
         if let Some(word) = port.written {
             self.words[port.place] = word;
         }
-        if !held && switches.document01(Switch::Memory) {
+        if !held && switches.paper(Switch::Memory) {
             self.cache.edge(&mut self.words, request, on);
         }
     }

@@ -26,7 +26,7 @@ impl Inputs {
     /// Whether the module's registers keep their values because the clock is held.
     pub fn stands(&self, switches: &Switches, stepping: bool) -> bool {
         let held_by = if stepping { Switch::HoldMul } else { Switch::Mul33 };
-        self.held && switches.document01(held_by)
+        self.held && switches.paper(held_by)
     }
 }
 

@@ -1,4 +1,4 @@
-// The switches: every place where the published text and document 01 differ, as data.
+// The switches: every place where the published text and the paper, documents 01 and 02, differ, as data.
 // Source: Part 1. Paper: what each row's third text says; "Misreadings of the source" for the last column.
 // The circuit reads the switches; how each changes its behaviour is in the circuit's modules.
 //
@@ -11,7 +11,8 @@
 #[derive(Clone, Copy, PartialEq, Eq, Debug)]
 pub enum Setting {
     Published,
-    Document01,
+    /// Documents 01 and 02.
+    Paper,
 }
 
 #[derive(Clone, Copy, PartialEq, Eq, Debug)]
@@ -46,7 +47,7 @@ pub struct Row {
     pub name: &'static str,
     pub sentence: &'static str,
     pub published: &'static str,
-    pub document01: &'static str,
+    pub paper: &'static str,
     pub listed: bool,
 }
 
@@ -56,9 +57,9 @@ const fn row(
     sentence: &'static str,
     listed: bool,
     published: &'static str,
-    document01: &'static str,
+    paper: &'static str,
 ) -> Row {
-    Row { switch, name, sentence, published, document01, listed }
+    Row { switch, name, sentence, published, paper, listed }
 }
 
 /// In the order of `Switch`.
@@ -237,7 +238,7 @@ impl Switches {
         self.0[switch as usize] == Setting::Published
     }
 
-    pub fn document01(&self, switch: Switch) -> bool {
+    pub fn paper(&self, switch: Switch) -> bool {
         !self.published(switch)
     }
 }

@@ -25,9 +25,9 @@ pub struct Out {
 pub struct Wires {
     /// The outer stall.
     pub held: bool,
-    /// The acknowledge clock: intAck, or with IRQ1 on Document01 the clock that takes the interrupt.
+    /// The acknowledge clock: intAck, or with IRQ1 on Paper the clock that takes the interrupt.
     pub ack: bool,
-    /// With IRQ1 on Document01: this clock takes the interrupt.
+    /// With IRQ1 on Paper: this clock takes the interrupt.
     pub take: bool,
     /// 2 or 3 if the interrupt jumps in this clock.
     pub vector: Option<u32>,
@@ -119,7 +119,7 @@ impl Circuit {
         }
     }
 
-    /// dmwr: every ST; with DMIO on Document01 not one to a device, with MEMORY on Document01 not one to memory.
+    /// dmwr: every ST; with DMIO on Paper not one to a device, with MEMORY on Paper not one to memory.
     fn port(&self, op: u32, device: bool, place: usize, b: u32) -> Port {
         let writes = match device {
             true => self.switches.published(Switch::DmIo),
@@ -142,7 +142,7 @@ impl Circuit {
     /// Whether this clock takes an interrupt, by document 01's rule; never by the published one.
     fn takes(&self, pins: &Pins) -> bool {
         let passed_over = self.switches.published(Switch::NopIrq) && self.ir == NEVER;
-        self.switches.document01(Switch::Irq1)
+        self.switches.paper(Switch::Irq1)
             && !pins.stall
             && self.begins()
             && !self.int_md
@@ -153,7 +153,7 @@ impl Circuit {
     pub fn wires(&self, pins: &Pins) -> Wires {
         let take = self.takes(pins);
         let ack = take || self.int_ack;
-        let op = if ack && self.switches.document01(Switch::AckMask) { NONE } else { self.ir >> 14 };
+        let op = if ack && self.switches.paper(Switch::AckMask) { NONE } else { self.ir >> 14 };
         let dst = if ack || op == BL { 7 } else { self.ir >> 11 & 7 };
         let (b, aa) = (self.register(dst), self.register(self.ir & 7));
         let a = self.operand(op, aa);
@@ -177,8 +177,8 @@ impl Circuit {
         };
         let quotient = self.divider.quotient(b, a, &self.switches);
         let operands = Operands { a, b, product: self.multiplier.product() as u32, quotient };
-        let quiet = stall0 && self.switches.document01(Switch::Io1);
-        let regwr_stall = own_stall || pins.stall && self.switches.document01(Switch::HoldReg);
+        let quiet = stall0 && self.switches.paper(Switch::Io1);
+        let regwr_stall = own_stall || pins.stall && self.switches.paper(Switch::HoldReg);
         Wires {
             held: pins.stall,
             ack,

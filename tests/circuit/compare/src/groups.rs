@@ -10,7 +10,7 @@ pub struct Group {
     pub weight: &'static str,
     pub kind: Kind,
     pub held: bool,
-    /// The switches on Document01, in addition to those of the group before.
+    /// The switches on Paper, in addition to those of the group before.
     pub more: &'static [Switch],
     /// Switches that the group's listings must show when one alone is on Published, in addition to those of the group before.
     /// In no group: IO1 (no listing has device accesses), RESET (an image has one), PSRIRQ and ACKLINE (they need IRQ1).
@@ -69,16 +69,16 @@ pub const GROUPS: [Group; 4] = [
     },
 ];
 
-/// The switches of a group: its own and those of the groups before it on Document01.
+/// The switches of a group: its own and those of the groups before it on Paper.
 pub fn switches(group: usize) -> Switches {
     let on = GROUPS[..=group].iter().flat_map(|group| group.more);
-    on.fold(Switches::all(Setting::Published), |all, &switch| all.with(switch, Setting::Document01))
+    on.fold(Switches::all(Setting::Published), |all, &switch| all.with(switch, Setting::Paper))
 }
 
 /// Only what the first group's listings show is set aside.
 pub fn fewest() -> Switches {
     let on = GROUPS[0].shows.iter();
-    on.fold(Switches::all(Setting::Published), |all, &switch| all.with(switch, Setting::Document01))
+    on.fold(Switches::all(Setting::Published), |all, &switch| all.with(switch, Setting::Paper))
 }
 
 /// Whether a group must show a switch.
@@ -138,8 +138,8 @@ mod tests {
     use super::*;
 
     #[test]
-    fn the_last_group_has_every_switch_on_document01() {
-        assert_eq!(switches(GROUPS.len() - 1), Switches::all(Setting::Document01));
+    fn the_last_group_has_every_switch_on_paper() {
+        assert_eq!(switches(GROUPS.len() - 1), Switches::all(Setting::Paper));
     }
 
     #[test]

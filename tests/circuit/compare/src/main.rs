@@ -41,7 +41,7 @@ fn options() -> Result<Options, String> {
 fn switch_cases(score: &mut Score, noticed: &mut Noticed) {
     for case in cases() {
         let name = groups::label(case.switch);
-        let expected = [(Setting::Published, &case.published), (Setting::Document01, &case.document01)];
+        let expected = [(Setting::Published, &case.published), (Setting::Paper, &case.paper)];
         let results = expected
             .map(|(setting, expect)| cases::run(case.program, case.steps, cases::switches(case, setting), expect));
         if results.iter().all(Result::is_ok) {
@@ -51,7 +51,7 @@ fn switch_cases(score: &mut Score, noticed: &mut Noticed) {
             score.judge(&format!("{name}, {}, {setting:?}", case.what), result);
         }
     }
-    let published = Switches::all(Setting::Published).with(Switch::Fill, Setting::Document01);
+    let published = Switches::all(Setting::Published).with(Switch::Fill, Setting::Paper);
     for agreed in AGREED {
         score.judge(agreed.what, cases::run(agreed.program, agreed.steps, published, &agreed.expect));
     }
@@ -74,7 +74,7 @@ fn held_against(options: &Options, at: usize, seed: u64, again: bool, noticed: &
         return Err(format!("seed {seed}: differs with the fewest switches set aside"));
     }
     if again {
-        for row in TABLE.iter().filter(|row| switches.document01(row.switch)) {
+        for row in TABLE.iter().filter(|row| switches.paper(row.switch)) {
             let turned = list(&image, switches.with(row.switch, Setting::Published));
             noticed.by_group(row.switch, at, turned.text != theirs);
         }

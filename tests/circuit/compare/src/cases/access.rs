@@ -25,7 +25,7 @@ pub const CASES: &[Case] = &[
             accesses: &[(4, 1, 5)],
             state: &[State::Register(0, 5)],
         },
-        document01: Expect {
+        paper: Expect {
             rows: &[Word(1, 0, 1), Word(2, 1, 1), Word(8, 2, 6), Word(9, 3, 1), Word(11, 4, 2)],
             accesses: &[],
             state: &[State::Register(0, 0)],
@@ -48,7 +48,7 @@ pub const CASES: &[Case] = &[
             accesses: &[(2, 13, 0x11), (3, 13, 0x22), (4, 18, 0x22), (5, 18, 0x22)],
             state: &[State::Register(0, 0x22)],
         },
-        document01: Expect {
+        paper: Expect {
             rows: &[Word(1, 0, 1), Word(3, 1, 2), Word(5, 2, 1)],
             accesses: &[(3, 13, 0x22), (5, 18, 0x22)],
             state: &[State::Register(0, 0x22)],
@@ -61,7 +61,7 @@ pub const CASES: &[Case] = &[
         base: &[],
         steps: &[quiet(1), Step::Reset, quiet(1)],
         published: Expect { rows: &[Word(1, 0, 1)], accesses: &[], state: &[State::Register(0, 2)] },
-        document01: Expect { rows: &[Word(1, 0, 1)], accesses: &[], state: &[State::Register(0, 1)] },
+        paper: Expect { rows: &[Word(1, 0, 1)], accesses: &[], state: &[State::Register(0, 1)] },
     },
     Case {
         switch: Switch::Reset,
@@ -70,7 +70,7 @@ pub const CASES: &[Case] = &[
         base: &[],
         steps: &[quiet(11), Step::Reset, quiet(35)],
         published: listing(&[Word(1, 0, 1), Word(23, 1, 22), Word(24, 2, 1)]),
-        document01: listing(&[Word(1, 0, 1), Word(34, 1, 33), Word(35, 2, 1)]),
+        paper: listing(&[Word(1, 0, 1), Word(34, 1, 33), Word(35, 2, 1)]),
     },
     Case {
         switch: Switch::DmIo,
@@ -105,7 +105,7 @@ pub const CASES: &[Case] = &[
             accesses: &[(3, 2, 1)],
             state: &[State::Register(1, 1)],
         },
-        document01: Expect {
+        paper: Expect {
             rows: &[
                 Word(1, 0, 1),
                 Word(2, 1, 1),
@@ -128,7 +128,7 @@ pub const CASES: &[Case] = &[
         base: &[],
         steps: &[quiet(2)],
         published: listing(&[Word(2, 0, 1)]),
-        document01: listing(&[Word(1, 0, 1)]),
+        paper: listing(&[Word(1, 0, 1)]),
     },
     Case {
         switch: Switch::Memory,
@@ -141,7 +141,7 @@ pub const CASES: &[Case] = &[
             accesses: &[],
             state: &[State::Register(2, 3)],
         },
-        document01: Expect {
+        paper: Expect {
             rows: &[Word(1, 0, 1), Word(6, 1, 5), Word(12, 2, 6)],
             accesses: &[],
             state: &[State::Register(2, 3)],

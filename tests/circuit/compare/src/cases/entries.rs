@@ -1,6 +1,6 @@
 // Programs for IRQ1: when an interrupt line is sampled, and how many clocks the interrupt takes.
 // Source: "Interrupts", sampling before the acknowledge clock. Paper: "An unheld clock with no instruction in flight".
-// Every other switch is on Document01. The entry of interrupt line 0 is word 2.
+// Every other switch is on Paper. The entry of interrupt line 0 is word 2.
 use super::{listing, quiet, Case, Row::Irq, Row::Word, Step, LONG};
 use circuit::words::*;
 use circuit::Switch;
@@ -21,10 +21,10 @@ const fn case(
     program: &'static [u32],
     steps: &'static [Step],
     published: &'static [super::Row],
-    document01: &'static [super::Row],
+    paper: &'static [super::Row],
 ) -> Case {
-    let (published, document01) = (listing(published), listing(document01));
-    Case { switch: Switch::Irq1, what, program, base: &[], steps, published, document01 }
+    let (published, paper) = (listing(published), listing(paper));
+    Case { switch: Switch::Irq1, what, program, base: &[], steps, published, paper }
 }
 
 pub const CASES: &[Case] = &[

@@ -22,7 +22,7 @@ pub const CASES: &[Case] = &[
             accesses: &[],
             state: &[State::Register(0, 15)],
         },
-        document01: Expect {
+        paper: Expect {
             rows: &[Word(1, 0, 1), Word(35, 1, 33), Word(36, 2, 1)],
             accesses: &[],
             state: &[State::Register(0, 15)],
@@ -39,7 +39,7 @@ pub const CASES: &[Case] = &[
             accesses: &[],
             state: &[State::Register(0, 3), State::High(2)],
         },
-        document01: Expect {
+        paper: Expect {
             rows: &[Word(1, 0, 1), Word(35, 1, 33), Word(36, 2, 1)],
             accesses: &[],
             state: &[State::Register(0, 3), State::High(2)],
@@ -56,7 +56,7 @@ pub const CASES: &[Case] = &[
             accesses: &[(3, 1, 6)],
             state: &[State::Register(0, 6)],
         },
-        document01: Expect {
+        paper: Expect {
             rows: &[Word(1, 0, 1), Word(4, 1, 2), Word(5, 2, 1)],
             accesses: &[(4, 1, 6)],
             state: &[State::Register(0, 6)],
@@ -73,7 +73,7 @@ pub const CASES: &[Case] = &[
             accesses: &[(5, 1, 6)],
             state: &[State::Register(0, 6)],
         },
-        document01: Expect {
+        paper: Expect {
             rows: &[Word(1, 0, 1), Word(4, 1, 2), Word(5, 2, 1)],
             accesses: &[(4, 1, 6)],
             state: &[State::Register(0, 6)],
@@ -90,7 +90,7 @@ pub const CASES: &[Case] = &[
             accesses: &[],
             state: &[State::Register(0, 15)],
         },
-        document01: Expect {
+        paper: Expect {
             rows: &[Word(1, 0, 1), Word(38, 1, 33), Word(39, 2, 1)],
             accesses: &[],
             state: &[State::Register(0, 15)],
@@ -114,7 +114,7 @@ pub const CASES: &[Case] = &[
         base: &[],
         steps: &[quiet(3), hold(1), quiet(3)],
         published: listing(&[Word(1, 0, 1), Word(2, 1, 1), Word(3, 2, 1), Word(6, 3, 2), Word(7, 9, 1)]),
-        document01: listing(&[Word(1, 0, 1), Word(2, 1, 1), Word(3, 2, 1), Word(6, 3, 2), Word(7, 6, 1)]),
+        paper: listing(&[Word(1, 0, 1), Word(2, 1, 1), Word(3, 2, 1), Word(6, 3, 2), Word(7, 6, 1)]),
     },
     Case {
         switch: Switch::HoldRti,
@@ -123,7 +123,7 @@ pub const CASES: &[Case] = &[
         base: &[],
         steps: &[quiet(2), Step::Clocks(1, 5, 0), Step::Clocks(3, 1, 0)],
         published: listing(&[Word(2, 0, 2), Irq(4, 4, 0, 1), Word(5, 2, 1)]),
-        document01: listing(&[Word(2, 0, 2), Word(4, 4, 1), Irq(5, 5, 0, 1), Word(6, 2, 1)]),
+        paper: listing(&[Word(2, 0, 2), Word(4, 4, 1), Irq(5, 5, 0, 1), Word(6, 2, 1)]),
     },
     Case {
         switch: Switch::HoldReg,
@@ -139,6 +139,6 @@ pub const CASES: &[Case] = &[
         base: &[],
         steps: &[quiet(1), hold(1), quiet(5)],
         published: listing(&[Word(1, 0, 1), Word(3, 1, 1), Word(4, 2, 1), Word(5, 3, 1), Word(6, 4, 1), Word(7, 5, 1)]),
-        document01: listing(&[Word(1, 0, 1), Word(3, 1, 1), Word(4, 2, 1), Word(6, 3, 2), Word(7, 5, 1)]),
+        paper: listing(&[Word(1, 0, 1), Word(3, 1, 1), Word(4, 2, 1), Word(6, 3, 2), Word(7, 5, 1)]),
     },
 ];

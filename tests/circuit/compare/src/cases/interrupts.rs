@@ -31,7 +31,7 @@ pub const CASES: &[Case] = &[
             Word(9, 3, 2),
             Word(10, 7, 1),
         ]),
-        document01: listing(&[
+        paper: listing(&[
             Word(2, 0, 2),
             Word(3, 4, 1),
             Word(4, 5, 1),
@@ -58,7 +58,7 @@ pub const CASES: &[Case] = &[
             Word(9, 2, 1),
             Word(11, 3, 2),
         ]),
-        document01: listing(&[
+        paper: listing(&[
             Word(2, 0, 2),
             Word(3, 4, 1),
             Word(4, 5, 1),
@@ -76,7 +76,7 @@ pub const CASES: &[Case] = &[
         base: &[Switch::Irq1],
         steps: &[quiet(3), high(1, 1), quiet(35)],
         published: listing(&[Word(2, 0, 2), Word(3, 4, 1), Word(4, 5, 1), Irq(38, 6, 0, 34), Word(39, 2, 1)]),
-        document01: listing(&[Word(2, 0, 2), Word(3, 4, 1), Word(4, 5, 1), Irq(6, 6, 0, 2), Word(7, 2, 1)]),
+        paper: listing(&[Word(2, 0, 2), Word(3, 4, 1), Word(4, 5, 1), Irq(6, 6, 0, 2), Word(7, 2, 1)]),
     },
     Case {
         switch: Switch::AckMask,
@@ -107,7 +107,7 @@ pub const CASES: &[Case] = &[
             accesses: &[(8, 1, 9)],
             state: &[State::Register(15, 8)],
         },
-        document01: Expect {
+        paper: Expect {
             rows: &[
                 Word(2, 0, 2),
                 Word(3, 4, 1),
@@ -152,7 +152,7 @@ pub const CASES: &[Case] = &[
             accesses: &[(8, 2, 3)],
             state: &[State::Register(15, 9)],
         },
-        document01: Expect {
+        paper: Expect {
             rows: &[
                 Word(2, 0, 2),
                 Word(3, 4, 1),
@@ -189,7 +189,7 @@ pub const CASES: &[Case] = &[
             accesses: &[],
             state: &[State::Register(15, 6), State::Register(0, 1)],
         },
-        document01: Expect {
+        paper: Expect {
             rows: &[Word(2, 0, 2), Word(3, 4, 1), Word(4, 5, 1), Irq(6, 6, 0, 2), Word(7, 2, 1)],
             accesses: &[],
             state: &[State::Register(15, 6), State::Register(0, 1)],
@@ -206,7 +206,7 @@ pub const CASES: &[Case] = &[
             accesses: &[],
             state: &[State::Status(5)],
         },
-        document01: Expect {
+        paper: Expect {
             rows: &[Word(2, 0, 2), Word(3, 4, 1), Word(4, 5, 1)],
             accesses: &[],
             state: &[State::Status(0)],
@@ -233,7 +233,7 @@ pub const CASES: &[Case] = &[
             accesses: &[],
             state: &[State::Status(7), State::Register(0, 1), State::Register(8, 3), State::Register(15, 6)],
         },
-        document01: Expect {
+        paper: Expect {
             rows: &[Word(2, 0, 2), Word(3, 4, 1), Word(4, 5, 1), Irq(6, 6, 0, 2), Word(7, 2, 1)],
             accesses: &[],
             state: &[State::Status(7), State::Register(0, 1), State::Register(8, 0), State::Register(15, 6)],
@@ -246,6 +246,6 @@ pub const CASES: &[Case] = &[
         base: &[Switch::Irq1],
         steps: &[quiet(3), high(1, 2), high(1, 3), quiet(2)],
         published: listing(&[Word(2, 0, 2), Word(3, 4, 1), Word(4, 5, 1), Irq(6, 6, 0, 2), Word(7, 2, 1)]),
-        document01: listing(&[Word(2, 0, 2), Word(3, 4, 1), Word(4, 5, 1), Irq(6, 6, 1, 2)]),
+        paper: listing(&[Word(2, 0, 2), Word(3, 4, 1), Word(4, 5, 1), Irq(6, 6, 1, 2)]),
     },
 ];

@@ -1,5 +1,5 @@
 // Programs for the switches: each shows what a switch changes, with both expected results written out by hand.
-// Source: Part 1, for the published result. Paper: for document 01's.
+// Source: Part 1, for the published result. Paper: for the other one.
 // Expected results come from the texts and from counting clocks; none is a printout of the circuit.
 mod access;
 mod agreed;
@@ -47,11 +47,11 @@ pub struct Case {
     pub switch: Switch,
     pub what: &'static str,
     pub program: &'static [u32],
-    /// Switches that are on Published in both runs; all others but `switch` are on Document01.
+    /// Switches that are on Published in both runs; all others but `switch` are on Paper.
     pub base: &'static [Switch],
     pub steps: &'static [Step],
     pub published: Expect,
-    pub document01: Expect,
+    pub paper: Expect,
 }
 
 /// A program's last word: MUL R1 1, which is not finished when the clocks end.
@@ -82,7 +82,7 @@ pub use agreed::AGREED;
 /// A case's switches with its own on `setting`.
 pub fn switches(case: &Case, setting: Setting) -> Switches {
     let published = |all: Switches, &switch: &Switch| all.with(switch, Setting::Published);
-    let base = case.base.iter().fold(Switches::all(Setting::Document01), published);
+    let base = case.base.iter().fold(Switches::all(Setting::Paper), published);
     base.with(case.switch, setting)
 }
 

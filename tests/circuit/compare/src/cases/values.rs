@@ -35,7 +35,7 @@ pub const CASES: &[Case] = &[
             Word(9, 8, 1),
             Word(10, 9, 1),
         ]),
-        document01: listing(&[
+        paper: listing(&[
             Word(1, 0, 1),
             Word(2, 1, 1),
             Word(3, 2, 1),
@@ -70,14 +70,7 @@ pub const CASES: &[Case] = &[
             Word(6, 5, 1),
             Word(7, 6, 1),
         ]),
-        document01: listing(&[
-            Word(1, 0, 1),
-            Word(2, 1, 1),
-            Word(4, 2, 2),
-            Word(5, 4, 1),
-            Word(6, 5, 1),
-            Word(7, 6, 1),
-        ]),
+        paper: listing(&[Word(1, 0, 1), Word(2, 1, 1), Word(4, 2, 2), Word(5, 4, 1), Word(6, 5, 1), Word(7, 6, 1)]),
     },
     Case {
         switch: Switch::RorNz,
@@ -86,7 +79,7 @@ pub const CASES: &[Case] = &[
         base: &[],
         steps: &[quiet(5)],
         published: listing(&[Word(1, 0, 1), Word(2, 1, 1), Word(4, 2, 2), Word(5, 4, 1)]),
-        document01: listing(&[Word(1, 0, 1), Word(2, 1, 1), Word(3, 2, 1), Word(4, 3, 1), Word(5, 4, 1)]),
+        paper: listing(&[Word(1, 0, 1), Word(2, 1, 1), Word(3, 2, 1), Word(4, 3, 1), Word(5, 4, 1)]),
     },
     Case {
         switch: Switch::DivTop,
@@ -106,7 +99,7 @@ pub const CASES: &[Case] = &[
             accesses: &[],
             state: &[State::Register(0, 0), State::High(0)],
         },
-        document01: Expect {
+        paper: Expect {
             rows: &[Word(1, 0, 1), Word(2, 1, 1), Word(35, 2, 33), Word(36, 3, 1), Word(37, 4, 1), Word(38, 5, 1)],
             accesses: &[],
             state: &[State::Register(0, 0x8000_0000), State::High(0)],
@@ -130,7 +123,7 @@ pub const CASES: &[Case] = &[
             accesses: &[(4, 1, 9)],
             state: &[State::Register(1, 9)],
         },
-        document01: Expect {
+        paper: Expect {
             rows: &[Word(1, 0, 1), Word(2, 1, 1), Word(4, 2, 2), Word(6, 3, 2), Word(7, 5, 1)],
             accesses: &[(4, 1, 9)],
             state: &[State::Register(1, 9)],
@@ -147,7 +140,7 @@ pub const CASES: &[Case] = &[
             accesses: &[],
             state: &[State::Register(0, 0xFFFF_FFFF), State::High(7)],
         },
-        document01: Expect {
+        paper: Expect {
             rows: &[Word(1, 0, 1), Word(34, 1, 33), Word(35, 2, 1), Word(36, 3, 1), Word(37, 4, 1)],
             accesses: &[],
             state: &[State::Register(0, 0), State::High(7)],
@@ -171,7 +164,7 @@ pub const CASES: &[Case] = &[
             accesses: &[],
             state: &[State::Register(0, 0xFFFF_FFFF), State::High(5)],
         },
-        document01: Expect {
+        paper: Expect {
             rows: &[Word(1, 0, 1), Word(2, 1, 1), Word(35, 2, 33), Word(36, 3, 1), Word(37, 4, 1), Word(38, 5, 1)],
             accesses: &[],
             state: &[State::Register(0, 0), State::High(7)],
