@@ -1,16 +1,17 @@
 # All image cases in order: a name with the ids of its sentences, the bytes, and the expected output where it was written by hand.
 # Called: imported by tests/images/make and run; it does nothing when run.
-# Reads: runs.py, interrupts.py, memory.py, edges.py and long.py of tests/images.
+# Reads: runs.py, interrupts.py, memory.py, edges.py, long.py and carry.py of tests/images.
 import sys
 
 sys.dont_write_bytecode = True
+import carry
 import edges
 import interrupts
 import long
 import memory
 import runs
 
-PARTS = [part for group in (runs, interrupts, memory, edges, long) for part in group.PARTS]
+PARTS = [part for group in (runs, interrupts, memory, edges, long, carry) for part in group.PARTS]
 
 
 def cases():

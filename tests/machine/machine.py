@@ -1,4 +1,5 @@
 # A second TRM written from the paper: as a clocked machine (`Record`, `clock`) and as the plain machine (`Plain`, `plain_clock`).
+# C of ADD and SUB is that of A2 of the change requests.
 # Called: python3 tests/machine/machine.py selftest [programs] compares the two on random programs; tests/machine/ imports it.
 # Reads: nothing; it shares nothing with crates/. The two machines share only the decoding of a word, `execute` and the interrupt rule.
 """Words are 32-bit patterns (0 to 2^32-1) unless named signed. The clock refuses nothing: programs, stores and records are legal."""
@@ -127,7 +128,7 @@ def arithmetic(word, m):
         result = ~a
     elif op in (ADD, SUB):
         result = signed(b) + signed(a) if op == ADD else signed(b) - signed(a)
-        m.c = int(result < 0)
+        m.c = (b + a) >> 32 if op == ADD else int(b >= a)      # b and a are without sign; V is of the signed result
         m.v = int(not -(1 << 31) <= result < 1 << 31)
     elif op == AND:
         result = b & a
@@ -559,7 +560,7 @@ def run(program, machines, clocks, inp=0):
 
 def starred_arithmetic():
     low = 1 << 31                         # op, B, A, result, then what the paper states
-    rows = [(SUB, 0, 1, MASK32, dict(n=1, z=0, c=1, v=0)),
+    rows = [(SUB, 0, 1, MASK32, dict(n=1, z=0, c=0, v=0)),
             (ADD, low - 1, 1, low, dict(n=1, z=0, c=0, v=1)),
             (ADD, low, low, 0, dict(n=0, z=1, c=1, v=1)),
             (ROR, 1, 1, low, dict(c=0)),
@@ -575,6 +576,52 @@ def starred_arithmetic():
         check(f"{op} {b} {a}", machines[0].regs[1], result)
         for name, value in stated.items():
             check(f"{op} {b} {a} {name}", getattr(machines[0], name), value)
+
+def ripple(b, a, carry):
+    """The carry out of bit 31 of b + a + carry, bit by bit."""
+    for i in range(32):
+        carry = ((b >> i & 1) + (a >> i & 1) + carry) >> 1
+    return carry
+
+# op, B, A, C by A2, and V, which stays that of the signed result
+CARRIES = [(ADD, MASK32, 1, 1, 0), (ADD, MASK32, 0, 0, 0), (ADD, MASK32, MASK32, 1, 0), (ADD, 1, MASK32, 1, 0),
+           (ADD, 0x7FFFFFFF, 0x80000000, 0, 0), (ADD, 0x80000001, 0x7FFFFFFF, 1, 0), (ADD, 0x7FFFFFFF, 1, 0, 1),
+           (ADD, 0x80000000, 0x80000000, 1, 1), (ADD, 5, 3, 0, 0),
+           (SUB, 5, 3, 1, 0), (SUB, 3, 5, 0, 0), (SUB, 0x1234, 0x1234, 1, 0), (SUB, 0, 0, 1, 0), (SUB, 0, 1, 0, 0),
+           (SUB, MASK32, MASK32, 1, 0), (SUB, 0x80000000, 1, 1, 1), (SUB, 0, 0x80000000, 0, 1), (SUB, 0x7FFFFFFF, MASK32, 0, 1),
+           (SUB, MASK32, 0x7FFFFFFF, 1, 0), (SUB, 0xFFC0, 0xFFBF, 1, 0), (SUB, 0, MASK32, 0, 0)]
+
+def carry():
+    """C of ADD and SUB: rows by hand, and on edge words and random ones a sum bit by bit, that of B, not A and 1 for SUB."""
+    for op, b, a, c, v in CARRIES:
+        for before in (0, 1):
+            machines = both([reg(op, 1, 2)], regs=((1, b), (2, a)))
+            for m in (machines[0], machines[2]):
+                m.c, m.v = before, 1 - v
+            run([reg(op, 1, 2)], machines, 1)
+            check(f"C and V of {op} {b:X} {a:X}", (machines[0].c, machines[0].v), (c, v))
+    rng = random.Random(2)
+    edge = [0, 1, 2, 0xFFBF, 0xFFC0, 0x7FFFFFFF, 0x80000000, 0x80000001, MASK32 - 1, MASK32]
+    for b, a in [(b, a) for b in edge for a in edge] + [(rng.getrandbits(32), rng.getrandbits(32)) for _ in range(1000)]:
+        for op, wanted in ((ADD, ripple(b, a, 0)), (SUB, ripple(b, ~a & MASK32, 1))):
+            m = Record(64)
+            m.regs[1], m.regs[2] = b, a
+            execute(reg(op, 1, 2), m, None, None, 0)
+            check(f"C of {op} {b:X} {a:X}", m.c, wanted)
+
+# B, A, and which of two addresses is higher without sign: B is higher, or lower or the same
+ADDRESSES = [(0x80000001, 0x7FFFFFFF, 1), (0x7FFFFFFF, 0x80000001, 0), (0x1234, 0x1234, 0), (0x80000001, 0x80000001, 0),
+             (0xFFC0, 0xFFBF, 1), (0xFFBF, 0xFFC0, 0), (0, MASK32, 0), (MASK32, 0, 1), (0, 0, 0), (5, 3, 1),
+             (MASK32, 0x80000001, 1), (0x80000001, MASK32, 0)]
+
+def addresses_compared():
+    """SUB and a branch on higher (8) or lower or same (9): taken in 2 clocks, or passed in 1, on both machines."""
+    for b, a, higher in ADDRESSES:
+        for number, taken in ((8, higher), (9, 1 - higher)):
+            program = [reg(SUB, 1, 2), branch(number, 2)]
+            machines = both(program, regs=((1, b), (2, a)))
+            check(f"condition {number} after {b:X} - {a:X}", run(program, machines, 2 + taken)[0], [1, 2 + taken])
+            check("PC after it", machines[2].pc, 4 if taken else 2)
 
 def starred_addresses():
     program = [ld(3, 1, 1), ld(4, 2, 0), ld(5, 2, 1), st(1, 2, 1)]
@@ -616,7 +663,7 @@ def shared_execute():
     check("branch", after(branch(14, -512), "pc", pc=0), [4096 - 511])
     check("MOV H", after(mov_h(1), 1, "n", "z", "c", "v", h=MASK32, c=1), [MASK32, 1, 0, 1, 0])
     check("ROR 32", after(imm(ROR, 1, 32), 1, "c", "v", v=1), [0x101, 1, 1])
-    check("SUB", after(imm(SUB, 0, 0x101), 0, "n", "z", "c", "v"), [MASK32, 1, 0, 1, 0])
+    check("SUB", after(imm(SUB, 0, 0x101), 0, "n", "z", "c", "v", c=1), [MASK32, 1, 0, 0, 0])
     check("DIV by below 0", after(imm(DIV, 6, 0), 6, "h", "z", c=1), [0, 0xA0000FFF, 1])
     for number, flags in enumerate(("z", "", "c", "", "n", "", "v", "", "c", "cz", "nv", "n",
                                     "nv", "nvz", "", None)):
@@ -787,7 +834,8 @@ def circuits():
     stepping_circuits(random.Random(1))
 
 # without the random programs
-SELFTESTS = [starred_arithmetic, starred_addresses, starred_cache, listing_example, shared_execute, schedule_of_tens, circuits]
+SELFTESTS = [starred_arithmetic, carry, addresses_compared, starred_addresses, starred_cache, listing_example, shared_execute,
+             schedule_of_tens, circuits]
 
 def selftest(programs=4000):
     for test in SELFTESTS:

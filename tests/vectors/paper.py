@@ -1,6 +1,7 @@
 # The paper's sentences on words and arithmetic in Python's unbounded integers; shares nothing with crates/.
 # Called: imported by tests/vectors/make; it does nothing when run.
-# Paper: "What a programmer sees", "Clock by clock" (multiplier and divider), "Where calls are turned down" (3, 10).
+# Paper: "What a programmer sees", "Clock by clock" (multiplier and divider), "Where calls are turned down" (3, 10); C of ADD and SUB is
+# that of A2 of the change requests.
 MASK = 2**32 - 1
 
 
@@ -48,7 +49,8 @@ def operation(op, b, a, carry, overflow):
         result = {0: a, 1: a ^ MASK, 4: b & a, 5: b & (a ^ MASK), 6: b | a, 7: b ^ a, 10: rotate_right(b, a % 32)}.get(op)
     if exact is not None:
         result = exact & MASK
-        carry, overflow = int(exact < 0), int(not -(2**31) <= exact < 2**31)
+        carry = (b + a) // 2**32 if op == 2 else int(b >= a)  # "both without sign": b and a are 0 to 2^32-1
+        overflow = int(not -(2**31) <= exact < 2**31)
     if op == 10:
         carry = result % 2
     return result, high, int(result >= 2**31), int(result == 0), carry, overflow

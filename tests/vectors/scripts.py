@@ -1,4 +1,5 @@
-# Scripts for the program trm_test_vectors: the paper's bench cases on machines, and every limit of its refusals 3 to 9.
+# Scripts for the program trm_test_vectors: the paper's bench cases on machines, branches by the C of A2, and every limit of its
+# refusals 3 to 9.
 # Called: imported by tests/vectors/make; it does nothing when run.
 # Reads: tests/vectors/, tests/machine/. Figures and refusal numbers of the paper are written below as numbers.
 import sys
@@ -37,6 +38,46 @@ def starred_arithmetic(s, starred):
         s.show('regs', 1, given=result)
         for name, value in zip(('h', 'n', 'z', 'c', 'v'), given):
             s.show(name, given=value)
+
+
+# Two addresses, and whether the first is higher than the second, and at or above it, without sign.
+ADDRESSES = [(0x80000001, 0x7FFFFFFF, 1, 1), (0x7FFFFFFF, 0x80000001, 0, 0), (0x1234, 0x1234, 0, 1), (0x80000001, 0x80000001, 0, 1),
+             (0xFFC0, 0xFFBF, 1, 1), (0xFFBF, 0xFFC0, 0, 0), (0, ONES, 0, 0), (ONES, 0, 1, 1), (0, 0, 0, 1), (5, 3, 1, 1),
+             (ONES, 0x80000001, 1, 1), (0x80000001, ONES, 0, 0)]
+
+
+def branches(s, ids, op, b, a, conditions):
+    """B op A, then a branch to 5 for each (condition, whether it holds), from a reset each: 2 clocks if it is taken, else 1."""
+    for condition, taken in conditions:
+        s.head(ids, f'{b:X}H {"-" if op == m.SUB else "+"} {a:X}H, branch on {condition}')
+        fresh(s, reg(op, 1, 2), branch(condition, 3), regs={1: b, 2: a})
+        takes(s, 1)
+        takes(s, 1 + taken)
+        s.show('pc', given=5 if taken else 2)
+
+
+def compared_addresses(s):
+    """Conditions 8 and 9, higher and lower or same, after SUB of two addresses; then 2 and 3, C and not C, after ADD and SUB."""
+    for b, a, higher, _ in ADDRESSES:
+        branches(s, 'A2.3', m.SUB, b, a, ((8, higher), (9, 1 - higher)))
+    for b, a, _, reached in ADDRESSES[:3]:
+        branches(s, 'A2.2', m.SUB, b, a, ((2, reached), (3, 1 - reached)))
+    for b, a, c in ((ONES, 1, 1), (ONES, 0, 0), (0x7FFFFFFF, 0x80000000, 0)):
+        branches(s, 'A2.1', m.ADD, b, a, ((2, c), (3, 1 - c)))
+
+
+def saved_carry(s):
+    """The interrupt saves the C of the SUB before it, and RTI gives it back."""
+    for b, a, saved in ((5, 3, 0x20000001), (3, 5, 0x80000001), (5, 5, 0x60000001)):
+        s.head('A2.2 S2.3 S1.21', f'{b}-{a}, an interrupt, RTI')
+        fresh(s, reg(m.SUB, 1, 2), NEVER, rti(7), status=1, regs={1: b, 2: a})
+        takes(s, 1)
+        s.clock(0, line_byte=1, finished=0)
+        s.show('regs', 15, given=saved)
+        s.set(c=1 - (saved >> 29 & 1))
+        takes(s, 2)
+        s.show('c', given=saved >> 29 & 1)
+        s.show('pc', given=1)
 
 
 def starred_addresses(s):
@@ -411,7 +452,7 @@ def nowhere(s):
     s.case('H', 65536)
 
 
-PARTS = [starred_addresses, starred_cache, lengths, listing, clock_table, misreadings, begin,
+PARTS = [compared_addresses, saved_carry, starred_addresses, starred_cache, lengths, listing, clock_table, misreadings, begin,
          row_3, row_4, row_5, row_6, row_7, row_8, row_9, order, nowhere]
 
 

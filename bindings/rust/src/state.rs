@@ -11,7 +11,7 @@ pub struct Flags {
     pub n: bool,
     /// The last result was zero.
     pub z: bool,
-    /// After ADD and SUB: the exact signed result is negative. After ROR: bit 0 of the result.
+    /// After ADD: the carry out of bit 31. After SUB: B is at or above A without sign. After ROR: bit 0 of the result.
     pub c: bool,
     /// After ADD and SUB: the exact signed result does not fit 32 bits.
     pub v: bool,

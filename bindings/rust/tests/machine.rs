@@ -69,11 +69,37 @@ fn after(word: u32, r0: u32, r1: u32) -> (u32, Flags) {
 #[test]
 fn s5_1_starred_results_and_flags() {
     let (add, sub) = (0x08401, 0x0C401);
-    assert_eq!(after(sub, 0, 1), (0xFFFF_FFFF, Flags { n: true, z: false, c: true, v: false }));
+    assert_eq!(after(sub, 0, 1), (0xFFFF_FFFF, Flags { n: true, z: false, c: false, v: false }));
     assert_eq!(after(add, 0x7FFF_FFFF, 1), (0x8000_0000, Flags { n: true, z: false, c: false, v: true }));
     assert_eq!(after(add, 0x8000_0000, 0x8000_0000), (0, Flags { n: false, z: true, c: true, v: true }));
-    assert_eq!(after(sub, 0, 1).1.to_string(), "N-C-");
+    assert_eq!(after(sub, 0, 1).1.to_string(), "N---");
     assert_eq!(after(add, 0x8000_0000, 0x8000_0000).1.to_string(), "-ZCV");
+}
+
+#[test]
+fn a2_1_carry_of_sums() {
+    let add = 0x08401;
+    let rows = [(0xFFFF_FFFF, 1, "-ZC-"), (0xFFFF_FFFF, 0, "N---"), (0xFFFF_FFFF, 0xFFFF_FFFF, "N-C-"), (5, 3, "----")];
+    for (b, a, flags) in rows {
+        assert_eq!(after(add, b, a).1.to_string(), flags, "{b:X}H + {a:X}H");
+    }
+}
+
+#[test]
+fn a2_2_carry_of_differences() {
+    let sub = 0x0C401;
+    let rows = [
+        (5, 3, "--C-"),
+        (3, 5, "N---"),
+        (0x1234, 0x1234, "-ZC-"),
+        (0x8000_0000, 1, "--CV"),
+        (0, 0x8000_0000, "N--V"),
+        (0x7FFF_FFFF, 0xFFFF_FFFF, "N--V"),
+        (0x8000_0003, 0x8000_0001, "--C-"),
+    ];
+    for (b, a, flags) in rows {
+        assert_eq!(after(sub, b, a).1.to_string(), flags, "{b:X}H - {a:X}H");
+    }
 }
 
 /// MOV R0, 5; LDPSR 8; ST R0, [0]; LD R1, [128]: the starred case of 12 and 22 clocks.

@@ -3,6 +3,7 @@
 pub mod Modular
 pub mod Signed
 pub mod Sums
+pub mod Flags
 pub mod Rotation
 pub mod Product
 pub mod Multiplier

@@ -4,6 +4,7 @@ use Rattle.trm_alu.proofs.Laws.Product.{mul-start, mul-end}
 use Rattle.trm_alu.proofs.Laws.Multiplier.{mul-step}
 use Rattle.trm_alu.proofs.Laws.Division.{div-step}
 use Rattle.trm_alu.proofs.Laws.Floor.{div-floor, mul-exact}
+use Rattle.trm_alu.proofs.Laws.Sums.{carry-out, carry-no-borrow}
 use Rattle.trm_alu.proofs.Laws.Bench.{rows-hold}
 
 pub theorems : Claims
@@ -15,5 +16,7 @@ theorems =
       mul-exact = mul-exact;
       div-steps = div-step;
       div-floors = div-floor;
+      add-carries = carry-out;
+      sub-carries = carry-no-borrow;
       bench-holds = rows-hold;
     }

@@ -38,7 +38,7 @@ rowSet op b a gives = record { op = op; b = b; a = a; before = record { h = 5; c
 unfoldable pub rows : List Row
 rows =
     -- * 0 − 1; 7FFFFFFFH + 1; 80000000H + 80000000H
-    row 3 0 1 (0xFFFF_FFFF ∷ 0 ∷ 1 ∷ 0 ∷ 1 ∷ 0 ∷ [])
+    row 3 0 1 (0xFFFF_FFFF ∷ 0 ∷ 1 ∷ 0 ∷ 0 ∷ 0 ∷ [])
     ∷ row 2 0x7FFF_FFFF 1 (0x8000_0000 ∷ 0 ∷ 1 ∷ 0 ∷ 0 ∷ 1 ∷ [])
     ∷ row 2 0x8000_0000 0x8000_0000 (0 ∷ 0 ∷ 0 ∷ 1 ∷ 1 ∷ 1 ∷ [])
     -- * 1 ROR 1; −1 × −1; 80000000H squared
@@ -49,13 +49,23 @@ rows =
     ∷ row 9 (2 ^ 32 - 7) 2 ((2 ^ 32 - 4) ∷ 1 ∷ 1 ∷ 0 ∷ 0 ∷ 0 ∷ [])
     ∷ row 9 (2 ^ 31) 1 ((2 ^ 31) ∷ 0 ∷ 1 ∷ 0 ∷ 0 ∷ 0 ∷ [])
     ∷ row 9 7 0 (0 ∷ 7 ∷ 0 ∷ 1 ∷ 0 ∷ 0 ∷ [])
-    -- −8 DIV 3 distinguishes a remainder from its complement; −2^31 − 1 distinguishes C from the unsigned borrow
+    -- A2, C of ADD is the carry out of bit 31: FFFFFFFFH + 1 and −1 + 2 have one, FFFFFFFFH + 0 and −3 + 1 have none
+    ∷ row 2 0xFFFF_FFFF 1 (0 ∷ 0 ∷ 0 ∷ 1 ∷ 1 ∷ 0 ∷ [])
+    ∷ row 2 (2 ^ 32 - 1) 2 (1 ∷ 0 ∷ 0 ∷ 0 ∷ 1 ∷ 0 ∷ [])
+    ∷ row 2 0xFFFF_FFFF 0 (0xFFFF_FFFF ∷ 0 ∷ 1 ∷ 0 ∷ 0 ∷ 0 ∷ [])
+    ∷ row 2 (2 ^ 32 - 3) 1 ((2 ^ 32 - 2) ∷ 0 ∷ 1 ∷ 0 ∷ 0 ∷ 0 ∷ [])
+    -- A2, C of SUB is 1 for B at or above A: 5 − 3, B = A, 0 − 0; 0 for 3 − 5
+    ∷ row 3 5 3 (2 ∷ 0 ∷ 0 ∷ 0 ∷ 1 ∷ 0 ∷ [])
+    ∷ row 3 0x1234 0x1234 (0 ∷ 0 ∷ 0 ∷ 1 ∷ 1 ∷ 0 ∷ [])
+    ∷ row 3 0 0 (0 ∷ 0 ∷ 0 ∷ 1 ∷ 1 ∷ 0 ∷ [])
+    ∷ row 3 3 5 ((2 ^ 32 - 2) ∷ 0 ∷ 1 ∷ 0 ∷ 0 ∷ 0 ∷ [])
+    -- A2, without sign: 80000000H − 1, 80000001H − 80000000H; 0 − 80000000H, 7FFFFFFFH − FFFFFFFFH, whose V is 1 as before
+    ∷ row 3 0x8000_0000 1 (0x7FFF_FFFF ∷ 0 ∷ 0 ∷ 0 ∷ 1 ∷ 1 ∷ [])
+    ∷ row 3 0x8000_0001 0x8000_0000 (1 ∷ 0 ∷ 0 ∷ 0 ∷ 1 ∷ 0 ∷ [])
+    ∷ row 3 0 0x8000_0000 (0x8000_0000 ∷ 0 ∷ 1 ∷ 0 ∷ 0 ∷ 1 ∷ [])
+    ∷ row 3 0x7FFF_FFFF 0xFFFF_FFFF (0x8000_0000 ∷ 0 ∷ 1 ∷ 0 ∷ 0 ∷ 1 ∷ [])
+    -- −8 DIV 3 distinguishes a remainder from its complement
     ∷ row 9 (2 ^ 32 - 8) 3 ((2 ^ 32 - 3) ∷ 1 ∷ 1 ∷ 0 ∷ 0 ∷ 0 ∷ [])
-    ∷ row 3 (2 ^ 31) 1 (0x7FFF_FFFF ∷ 0 ∷ 0 ∷ 0 ∷ 1 ∷ 1 ∷ [])
-    -- −1 + 2 and −3 + 1 distinguish C of ADD from the unsigned carry; the exact result of 7FFFFFFFH − (−1), 2^31, is too large
-    ∷ row 2 (2 ^ 32 - 1) 2 (1 ∷ 0 ∷ 0 ∷ 0 ∷ 0 ∷ 0 ∷ [])
-    ∷ row 2 (2 ^ 32 - 3) 1 ((2 ^ 32 - 2) ∷ 0 ∷ 1 ∷ 0 ∷ 1 ∷ 0 ∷ [])
-    ∷ row 3 0x7FFF_FFFF (2 ^ 32 - 1) (0x8000_0000 ∷ 0 ∷ 1 ∷ 0 ∷ 0 ∷ 1 ∷ [])
     -- 7 DIV −2 and −7 DIV 80000000H: A is below 0, so R.d is 0 and H the dividend
     ∷ row 9 7 (2 ^ 32 - 2) (0 ∷ 7 ∷ 0 ∷ 1 ∷ 0 ∷ 0 ∷ [])
     ∷ row 9 (2 ^ 32 - 7) 0x8000_0000 (0 ∷ (2 ^ 32 - 7) ∷ 0 ∷ 1 ∷ 0 ∷ 0 ∷ [])
@@ -65,7 +75,7 @@ rows =
     ∷ rowSet 0 9 0 (0 ∷ 5 ∷ 0 ∷ 1 ∷ 1 ∷ 1 ∷ [])
     ∷ rowSet 1 9 0xFFFF (0xFFFF_0000 ∷ 5 ∷ 1 ∷ 0 ∷ 1 ∷ 1 ∷ [])
     ∷ rowSet 2 3 4 (7 ∷ 5 ∷ 0 ∷ 0 ∷ 0 ∷ 0 ∷ [])
-    ∷ rowSet 3 4 3 (1 ∷ 5 ∷ 0 ∷ 0 ∷ 0 ∷ 0 ∷ [])
+    ∷ rowSet 3 3 4 (0xFFFF_FFFF ∷ 5 ∷ 1 ∷ 0 ∷ 0 ∷ 0 ∷ [])
     ∷ rowSet 4 0xF0F0_1234 0xFFFF_0000 (0xF0F0_0000 ∷ 5 ∷ 1 ∷ 0 ∷ 1 ∷ 1 ∷ [])
     ∷ rowSet 5 0xF0F0_1234 0xFFFF_0000 (0x1234 ∷ 5 ∷ 0 ∷ 0 ∷ 1 ∷ 1 ∷ [])
     ∷ rowSet 6 0xF0F0_1234 0x0F0F_0000 (0xFFFF_1234 ∷ 5 ∷ 1 ∷ 0 ∷ 1 ∷ 1 ∷ [])

@@ -1,6 +1,6 @@
 -- Claims about the arithmetic beyond the contracts: one statement per field.
--- Paper: "Clock by clock" (the registers after k steps), "9 DIV", "Bench cases". Proved in proofs/Theorems.antt.
-use Prim.Native.Nat.{ℕ, _+_, _/_, _%_, _^_, _<_}
+-- Paper: "Clock by clock" (the registers after k steps), "9 DIV", "Bench cases"; request A2 (carry). Proved in proofs/Theorems.antt.
+use Prim.Native.Nat.{ℕ, _+_, _-_, _*_, _/_, _%_, _^_, _<_}
 use mathlib.Core.Path.{_≡_}
 use mathlib.Core.Bool.{true}
 use lib.Dec.{eqb}
@@ -8,6 +8,8 @@ use lib.IntN.{pos, _+ℤ_, _*ℤ_}
 use Rattle.trm_alu.specs.Word.{signed}
 use Rattle.trm_alu.specs.Multiply.{product, lowWord, highWord, mulAfter, mulStep}
 use Rattle.trm_alu.specs.Divide.{above0, quotient, remainder, divRem, divQuot, dividerAt, divStep}
+use Rattle.trm_alu.specs.Results.{sum, difference}
+use Rattle.trm_alu.specs.Flags.{carryOfAdd, carryOfSub}
 use Rattle.trm_alu.specs.Bench.{rows, AllHold}
 
 -- Before the first step the multiplier's register is A without sign.
@@ -41,6 +43,14 @@ DivFloors =
     (a b : ℕ) → b < 2 ^ 32 → above0 a ≡ true
     → (signed (quotient a b) *ℤ pos a +ℤ pos (remainder a b) ≡ signed b) × (remainder a b < a)
 
+-- A2: "the carry out of bit 31": the result of ADD and C as bit 32 above it are the sum of the two words without sign.
+abbrev pub AddCarries : Type 0
+AddCarries = (a b : ℕ) → a < 2 ^ 32 → b < 2 ^ 32 → sum a b + carryOfAdd a b * 2 ^ 32 ≡ b + a
+
+-- A2: the result of SUB and C as bit 32 above it are B plus 2^32 − A, without sign: C is 0 when SUB borrows.
+abbrev pub SubCarries : Type 0
+SubCarries = (a b : ℕ) → a < 2 ^ 32 → b < 2 ^ 32 → difference a b + carryOfSub a b * 2 ^ 32 ≡ b + (2 ^ 32 - a)
+
 -- Every row of the table of bench cases holds.
 abbrev pub BenchHolds : Type 0
 BenchHolds = AllHold rows
@@ -52,4 +62,6 @@ pub record Claims : Type 0 where
   pub mul-exact : MulExact
   pub div-steps : DivSteps
   pub div-floors : DivFloors
+  pub add-carries : AddCarries
+  pub sub-carries : SubCarries
   pub bench-holds : BenchHolds

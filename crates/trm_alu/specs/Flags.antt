@@ -1,31 +1,30 @@
 -- N Z C V after operations 0–10, as numbers 0 or 1.
--- Paper: "N and Z are taken from the 32-bit result of 0–10. Among 0–10, C and V change only here: after ADD and SUB, C is 1
--- when the exact signed result is negative and V is 1 when it does not fit 32 bits; after ROR, C is bit 0 of the result."
+-- Paper: "N and Z are taken from the 32-bit result of 0–10. Among 0–10, C and V change only here: after ADD and SUB, .. V is 1 when
+-- [the exact signed result] does not fit 32 bits; after ROR, C is bit 0 of the result."
+-- Request A2: "After ADD [C] is the carry out of bit 31, and after SUB it is 1 exactly when B is at or above A, both without sign."
 --   carryOfAdd, carryOfSub         C after ADD, after SUB
 --   overflowOfAdd, overflowOfSub   V after ADD, after SUB
 --   flagsAfter op a b r c v        all four; r is the result, c and v are C and V before
-use Prim.Native.Nat.{ℕ, _%_, _^_}
-use mathlib.Core.Bool.{Bool, true, false, cond}
+use Prim.Native.Nat.{ℕ, _+_, _%_, _^_}
+use mathlib.Core.Bool.{Bool, cond}
 use lib.Dec.{leb, eqb}
 use lib.IntN.{ℤ, pos, negsuc}
 use Rattle.trm_alu.specs.declared.inner.flags.Flags.{Flags}
 use Rattle.trm_alu.specs.Word.{flag}
 use Rattle.trm_alu.specs.Results.{exactSum, exactDifference, resultOf}
 
-unfoldable pub negative : ℤ → Bool
-negative (pos n) = false
-negative (negsuc n) = true
-
 -- below −2^31, or 2^31 and above
 unfoldable pub tooWide : ℤ → Bool
 tooWide (pos n) = leb (2 ^ 31) n
 tooWide (negsuc n) = leb (2 ^ 31) n
 
+-- the sum of the two words without sign does not fit bits 31–0
 unfoldable pub carryOfAdd : ℕ → ℕ → ℕ
-carryOfAdd a b = flag (negative (exactSum a b))
+carryOfAdd a b = flag (leb (2 ^ 32) (b + a))
 
+-- B is at or above A, without sign
 unfoldable pub carryOfSub : ℕ → ℕ → ℕ
-carryOfSub a b = flag (negative (exactDifference a b))
+carryOfSub a b = flag (leb a b)
 
 unfoldable pub overflowOfAdd : ℕ → ℕ → ℕ
 overflowOfAdd a b = flag (tooWide (exactSum a b))

@@ -1,5 +1,5 @@
 -- Words and the signed numbers that they represent, in two's complement.
--- Paper: registers and operands are 32-bit words; MUL, DIV, ADD and SUB take them as signed.
+-- Paper: registers and operands are 32-bit words; MUL, DIV, ADD and SUB take them as signed, C of ADD and SUB without sign (A2).
 --   signed n   the signed number of the 32-bit word n
 --   word k z   the low k bits of the signed number z
 --   biased n   the signed number of the word n, plus 2^31: its representation in the code

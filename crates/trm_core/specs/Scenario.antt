@@ -161,10 +161,10 @@ phases = map (λ t. t .state .machine .scalars .running .phase) recordHistory
 
 -- the results of tests/machine/scenario.py
 unfoldable pub expectedRecordDigest : ℕ
-expectedRecordDigest = 902976
+expectedRecordDigest = 202169
 
 unfoldable pub expectedReferenceDigest : ℕ
-expectedReferenceDigest = 322028
+expectedReferenceDigest = 178530
 
 unfoldable pub expectedFinishes : List ℕ
 expectedFinishes =

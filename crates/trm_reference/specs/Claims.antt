@@ -1,9 +1,17 @@
--- Claims about the reference machine: in every case of seven tables its definitions compute what the paper says.
--- Paper: "Bench cases", the clock table, "What a programmer sees", "Clock by clock". Proved in proofs/Theorems.antt.
+-- Claims about the reference machine: in every case of eight tables its definitions compute what the paper says; and what branches
+-- after SUB compare.
+-- Paper: "Bench cases", the clock table, "What a programmer sees", "Clock by clock"; request A2. Proved in proofs/Theorems.antt.
+use Prim.Native.Nat.{ℕ, _^_, _<_}
+use mathlib.Core.Path.{_≡_}
+use lib.Dec.{ltb, leb}
+use Rattle.trm_word.specs.Fields.{operation, condition}
+use Rattle.trm_reference.specs.Visible.{Visible}
+use Rattle.trm_reference.specs.Execute.{operandA, operandB, execute, branchTaken}
 use Rattle.trm_reference.specs.Tables.{AllHold}
 use Rattle.trm_reference.specs.Tables.Starred.{starred}
 use Rattle.trm_reference.specs.Tables.ClockTable.{clockTable}
 use Rattle.trm_reference.specs.Tables.Executed.{executed}
+use Rattle.trm_reference.specs.Tables.Comparisons.{comparisons}
 use Rattle.trm_reference.specs.Tables.Accesses.{accesses}
 use Rattle.trm_reference.specs.Tables.Interrupts.{interrupts}
 use Rattle.trm_reference.specs.Tables.Histories.{histories}
@@ -20,6 +28,18 @@ ClockTableHolds = AllHold clockTable
 -- In each case a word changes PC, registers, H, flags and status as the paper says, and no other register.
 abbrev pub ExecutedHold : Type 0
 ExecutedHold = AllHold executed
+
+-- In each case the branch higher or lower-or-same is taken as the two addresses compare.
+abbrev pub ComparisonsHold : Type 0
+ComparisonsHold = AllHold comparisons
+
+-- A2: "The higher and lower-or-same branches then compare addresses rightly": whatever SUB w takes for B and A, a branch u under
+-- condition 8 is taken after it if and only if B is above A without sign, and one under condition 9 if and only if B is at or below A.
+abbrev pub ComparesAddresses : Type 0
+ComparesAddresses =
+    (w u : ℕ) (v : Visible) (x : ℕ) → operation w ≡ 3 → operandA w v < 2 ^ 32 → operandB w v < 2 ^ 32
+    → (condition u ≡ 8 → branchTaken u (execute w v x) ≡ ltb (operandA w v) (operandB w v))
+    × (condition u ≡ 9 → branchTaken u (execute w v x) ≡ leb (operandB w v) (operandA w v))
 
 -- In each case LD and ST access the address, memory word and device that the paper says, in their last clock, and no other word;
 -- an accepted reset gives zeros and the words of the store.
@@ -42,6 +62,8 @@ pub record Claims : Type 0 where
   pub starred-hold : StarredHold
   pub clock-table-holds : ClockTableHolds
   pub executed-hold : ExecutedHold
+  pub comparisons-hold : ComparisonsHold
+  pub compares-addresses : ComparesAddresses
   pub accesses-hold : AccessesHold
   pub interrupts-hold : InterruptsHold
   pub histories-hold : HistoriesHold

@@ -17,6 +17,7 @@ use Rattle.trm_reference.specs.Reference.{Reference, referenceClock}
 pub mod Starred
 pub mod ClockTable
 pub mod Executed
+pub mod Comparisons
 pub mod Accesses
 pub mod Interrupts
 pub mod Histories

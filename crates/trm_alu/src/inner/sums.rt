@@ -1,6 +1,7 @@
-// The exact signed sum and difference of two words, each as a natural number: the exact value plus 2^32.
-// Paper: "C is 1 when the exact signed result is negative and V is 1 when it does not fit 32 bits".
-// Then the results, carry and overflow of ADD and SUB.
+// The results of ADD and SUB, their carry from the words without sign, and their overflow from the exact signed sum and difference,
+// each as a natural number: the exact value plus 2^32.
+// Paper: "V is 1 when [the exact signed result] does not fit 32 bits".
+// Request A2: "After ADD [C] is the carry out of bit 31, and after SUB it is 1 exactly when B is at or above A, both without sign."
 ghost use mathlib.Core.Path.{_≡_};
 ghost use Prim.Native.Nat.{_+_, _-_, _^_};
 ghost use Rattle.trm_alu.specs.Flags.{carryOfAdd, carryOfSub, overflowOfAdd, overflowOfSub};
@@ -45,13 +46,13 @@ pub fn subtract(a: u32, b: u32) -> u32
 pub fn carry_of_add(a: u32, b: u32) -> u64
     ensures { λ r. ⌜ r ≡ carryOfAdd a b ⌝ }
 {
-    1 - biased_sum(a, b) / 0x1_0000_0000
+    (b as u64 + a as u64) / 0x1_0000_0000
 }
 
 pub fn carry_of_sub(a: u32, b: u32) -> u64
     ensures { λ r. ⌜ r ≡ carryOfSub a b ⌝ }
 {
-    1 - biased_difference(a, b) / 0x1_0000_0000
+    if b >= a { 1 } else { 0 }
 }
 
 pub fn overflow_of_add(a: u32, b: u32) -> u64

@@ -7,7 +7,7 @@ use Rattle.trm_alu.specs.Word.{signed, word}
 use Rattle.trm_alu.specs.Multiply.{product, lowWord, highWord, partialProduct, mulAfter}
 use Rattle.trm_alu.specs.Divide.{above0, floorDiv, floorMod, quotient, remainder, taken, divRem, divQuot}
 use Rattle.trm_alu.specs.Results.{exactSum, exactDifference, sum, difference, ror, shortResult, resultOf, highOf}
-use Rattle.trm_alu.specs.Flags.{negative, tooWide, carryOfAdd, carryOfSub, overflowOfAdd, overflowOfSub, signFlag, zeroFlag}
+use Rattle.trm_alu.specs.Flags.{tooWide, carryOfAdd, carryOfSub, overflowOfAdd, overflowOfSub, signFlag, zeroFlag}
 use Rattle.trm_alu.specs.Flags.{carryAfter, overflowAfter, flagsAfter, flagsOf}
 use Rattle.trm_reference.specs.Geometry.{burst, blockOf, lineOf}
 use Rattle.trm_reference.specs.Visible.{registerIndex, register, withRegister, cacheOn, withMode, nextPc, wordAt}
@@ -39,7 +39,7 @@ use Rattle.trm_listing.specs.Examples.{AllListed, ExamplesHold}
 
 pub examples-hold : ExamplesHold
 unfolding test same storeLengthOk signed word product lowWord highWord partialProduct mulAfter above0 floorDiv floorMod quotient
-    remainder taken divRem divQuot exactSum exactDifference sum difference ror shortResult resultOf highOf negative tooWide
+    remainder taken divRem divQuot exactSum exactDifference sum difference ror shortResult resultOf highOf tooWide
     carryOfAdd carryOfSub overflowOfAdd overflowOfSub signFlag zeroFlag carryAfter overflowAfter flagsAfter flagsOf burst blockOf
     lineOf registerIndex register withRegister cacheOn withMode nextPc wordAt isLoad isStore addressOf placeOfWord isMemory
     memoryIndex deviceNumber isAccess toMemory toDevice target targetBlock targetLine stored loaded deviceAnswer answerOf operandA

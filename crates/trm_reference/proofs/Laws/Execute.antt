@@ -10,10 +10,8 @@ use native.Mathlib.Omega.{arith}
 use native.Mathlib.Nat.{mod-lt}
 use Rattle.trm_word.specs.Fields.{operation, source, newStatus, jumpForm, callOffset, bit, lowBits}
 use Rattle.trm_word.specs.Condition.{isSet}
-use Rattle.trm_alu.specs.Word.{flag}
-use Rattle.trm_alu.specs.Results.{exactSum, exactDifference, resultOf}
-use Rattle.trm_alu.specs.Flags.{negative, tooWide, carryOfAdd, carryOfSub, overflowOfAdd, overflowOfSub, signFlag, zeroFlag}
-use Rattle.trm_alu.specs.Flags.{carryAfter, overflowAfter, flagsAfter, flagsOf}
+use Rattle.trm_alu.specs.Flags.{flagsOf}
+use Rattle.trm_alu.proofs.Laws.Flags.{Below, flags-below}
 use Rattle.trm_reference.specs.Visible.{Visible, register, registerIndex, withRegister, withMode, nextPc, cacheOn}
 use Rattle.trm_reference.specs.Execute.{operandA, operandB, calculated, wentTo, wroteTo, statusSet, returned, jumped}
 use Rattle.trm_reference.specs.Execute.{branchTaken, branchTarget, branched, called, execute}
@@ -33,9 +31,6 @@ cond-below : (k : ℕ) (t : Bool) (a b : ℕ) → a < k → b < k → cond t a b
 cond-below k true a b p q = p
 cond-below k false a b p q = q
 
-flag-below : (t : Bool) → flag t < 2
-flag-below t = cond-below 2 t 1 0 (omega arith) (omega arith)
-
 next-below : (pc : ℕ) → nextPc pc < 4096
 unfolding nextPc
 next-below pc = mod-lt (pc + 1) {m = 4096} (omega arith)
@@ -49,31 +44,19 @@ narrow-cond true a b p q = p
 narrow-cond false a b p q = q
 
 calculated-narrow : (w : ℕ) (v : Visible) → Narrow v → Narrow (calculated w v)
-unfolding calculated flagsOf flagsAfter signFlag zeroFlag carryAfter overflowAfter carryOfAdd carryOfSub overflowOfAdd overflowOfSub
+unfolding calculated
 calculated-narrow w v h =
     record {
       pc = next-below (v .pc);
-      n = flag-below (leb (2 ^ 31) r);
-      z = flag-below (eqb r 0);
-      c = cond-below 2 (eqb op 2) _ _ (flag-below (negative (exactSum a b)))
-          (cond-below 2 (eqb op 3) _ _ (flag-below (negative (exactDifference a b)))
-          (cond-below 2 (eqb op 10) _ _ (mod-lt r {m = 2} (omega arith)) (h .c)));
-      v = cond-below 2 (eqb op 2) _ _ (flag-below (tooWide (exactSum a b)))
-          (cond-below 2 (eqb op 3) _ _ (flag-below (tooWide (exactDifference a b))) (h .v));
+      n = f .n;
+      z = f .z;
+      c = f .c;
+      v = f .v;
       status = h .status;
     }
   where
-    op : ℕ
-    op = operation w
-
-    a : ℕ
-    a = operandA w v
-
-    b : ℕ
-    b = operandB w v
-
-    r : ℕ
-    r = resultOf op a b
+    f : Below (flagsOf (operation w) (operandA w v) (operandB w v) (v .c) (v .v))
+    f = flags-below (operation w) (operandA w v) (operandB w v) (v .c) (v .v) (h .c) (h .v)
 
 went-narrow : (v : Visible) (pc : ℕ) → pc < 4096 → Narrow v → Narrow (wentTo v pc)
 went-narrow v pc p h = record { pc = p; n = h .n; z = h .z; c = h .c; v = h .v; status = h .status }

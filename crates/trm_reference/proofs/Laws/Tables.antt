@@ -8,7 +8,7 @@ use Rattle.trm_alu.specs.Word.{signed, word}
 use Rattle.trm_alu.specs.Multiply.{product, lowWord, highWord}
 use Rattle.trm_alu.specs.Divide.{above0, floorDiv, floorMod, quotient, remainder}
 use Rattle.trm_alu.specs.Results.{exactSum, exactDifference, sum, difference, ror, shortResult, resultOf, highOf}
-use Rattle.trm_alu.specs.Flags.{negative, tooWide, carryOfAdd, carryOfSub, overflowOfAdd, overflowOfSub}
+use Rattle.trm_alu.specs.Flags.{tooWide, carryOfAdd, carryOfSub, overflowOfAdd, overflowOfSub}
 use Rattle.trm_alu.specs.Flags.{signFlag, zeroFlag, carryAfter, overflowAfter, flagsAfter, flagsOf}
 use Rattle.trm_reference.specs.Geometry.{burst, blockOf, lineOf}
 use Rattle.trm_reference.specs.Visible.{registerIndex, register, withRegister, cacheOn, withMode, nextPc, wordAt, resetVisible}
@@ -29,6 +29,7 @@ use Rattle.trm_reference.specs.Tables.{Row, AllHold, ranWith, ran, state
 use Rattle.trm_reference.specs.Tables.Starred.{arithmetic, placed, starred}
 use Rattle.trm_reference.specs.Tables.ClockTable.{clockTable}
 use Rattle.trm_reference.specs.Tables.Executed.{takenUnder, executed}
+use Rattle.trm_reference.specs.Tables.Comparisons.{compared, comparisons}
 use Rattle.trm_reference.specs.Tables.Accesses.{answeredTo, kept, accesses}
 use Rattle.trm_reference.specs.Tables.Interrupts.{reached, interrupts}
 use Rattle.trm_reference.specs.Tables.Histories.{judged, summed, counted, finishedAt, histories}
@@ -47,6 +48,7 @@ record Passed : Type 0 where
   starred-passes : passes starred ≡ true
   clock-table-passes : passes clockTable ≡ true
   executed-passes : passes executed ≡ true
+  comparisons-passes : passes comparisons ≡ true
   accesses-passes : passes accesses ≡ true
   interrupts-passes : passes interrupts ≡ true
   histories-passes : passes histories ≡ true
@@ -54,10 +56,10 @@ record Passed : Type 0 where
 
 passed : Passed
 unfolding test same
-    starred clockTable executed accesses interrupts histories stalls ranWith ran stateAfter finishes arithmetic placed changedFrom shown
-    takenUnder answeredTo kept reached restOf judged summed counted finishedAt stalledRun answersOf
+    starred clockTable executed comparisons accesses interrupts histories stalls ranWith ran stateAfter finishes arithmetic placed
+    changedFrom shown compared takenUnder answeredTo kept reached restOf judged summed counted finishedAt stalledRun answersOf
     signed word product lowWord highWord above0 floorDiv floorMod quotient remainder exactSum exactDifference sum difference ror
-    shortResult resultOf highOf negative tooWide carryOfAdd carryOfSub overflowOfAdd overflowOfSub signFlag zeroFlag carryAfter
+    shortResult resultOf highOf tooWide carryOfAdd carryOfSub overflowOfAdd overflowOfSub signFlag zeroFlag carryAfter
     overflowAfter flagsAfter flagsOf
     burst blockOf lineOf registerIndex register withRegister cacheOn withMode nextPc wordAt resetVisible
     isLoad isStore addressOf placeOfWord isMemory memoryIndex deviceNumber isAccess toMemory toDevice target targetBlock
@@ -74,6 +76,7 @@ passed =
       starred-passes = refl;
       clock-table-passes = refl;
       executed-passes = refl;
+      comparisons-passes = refl;
       accesses-passes = refl;
       interrupts-passes = refl;
       histories-passes = refl;
@@ -88,6 +91,9 @@ clock-table-holds = passes-holds clockTable (passed .clock-table-passes)
 
 pub executed-hold : AllHold executed
 executed-hold = passes-holds executed (passed .executed-passes)
+
+pub comparisons-hold : AllHold comparisons
+comparisons-hold = passes-holds comparisons (passed .comparisons-passes)
 
 pub accesses-hold : AllHold accesses
 accesses-hold = passes-holds accesses (passed .accesses-passes)

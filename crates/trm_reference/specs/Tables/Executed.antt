@@ -102,11 +102,15 @@ executed =
     -- "1 NOT A. 2 ADD. 3 SUB, B−A. 4 AND. 5 BIC, B and not A. 6 OR. 7 XOR": R1, which is 101H, with a literal
     ∷ row (carried (literalWord 1 1 1) (seen 0x123 0 1 1 1 0)) (0x124 ∷ 1 ∷ 0xFFFF_FFFE ∷ 0x8000_0005 ∷ 1 ∷ 0 ∷ 1 ∷ 1 ∷ 0 ∷ [])
     ∷ row (carried (literalWord 2 1 1) (seen 0x123 1 1 1 1 0)) (0x124 ∷ 1 ∷ 0x102 ∷ 0x8000_0005 ∷ 0 ∷ 0 ∷ 0 ∷ 0 ∷ 0 ∷ [])
-    ∷ row (carried (literalWord 3 1 0x102) (seen 0x123 0 1 0 1 0)) (0x124 ∷ 1 ∷ 0xFFFF_FFFF ∷ 0x8000_0005 ∷ 1 ∷ 0 ∷ 1 ∷ 0 ∷ 0 ∷ [])
+    ∷ row (carried (literalWord 3 1 0x102) (seen 0x123 0 1 1 1 0)) (0x124 ∷ 1 ∷ 0xFFFF_FFFF ∷ 0x8000_0005 ∷ 1 ∷ 0 ∷ 0 ∷ 0 ∷ 0 ∷ [])
     ∷ row (carried (literalWord 4 1 3) (seen 0x123 1 1 1 1 0)) (0x124 ∷ 1 ∷ 1 ∷ 0x8000_0005 ∷ 0 ∷ 0 ∷ 1 ∷ 1 ∷ 0 ∷ [])
     ∷ row (carried (literalWord 5 1 3) (seen 0x123 1 1 1 1 0)) (0x124 ∷ 1 ∷ 0x100 ∷ 0x8000_0005 ∷ 0 ∷ 0 ∷ 1 ∷ 1 ∷ 0 ∷ [])
     ∷ row (carried (literalWord 6 1 3) (seen 0x123 1 1 1 1 0)) (0x124 ∷ 1 ∷ 0x103 ∷ 0x8000_0005 ∷ 0 ∷ 0 ∷ 1 ∷ 1 ∷ 0 ∷ [])
     ∷ row (carried (literalWord 7 1 3) (seen 0x123 1 1 1 1 0)) (0x124 ∷ 1 ∷ 0x102 ∷ 0x8000_0005 ∷ 0 ∷ 0 ∷ 1 ∷ 1 ∷ 0 ∷ [])
+    -- A2, C with a literal as with a register: R6, which is A0000FFFH, plus 1 has no carry; R1 minus 101H and minus 1 is not below 0
+    ∷ row (carried (literalWord 2 6 1) (seen 0x123 0 1 1 1 0)) (0x124 ∷ 6 ∷ 0xA000_1000 ∷ 0x8000_0005 ∷ 1 ∷ 0 ∷ 0 ∷ 0 ∷ 0 ∷ [])
+    ∷ row (carried (literalWord 3 1 0x101) (seen 0x123 1 0 0 1 0)) (0x124 ∷ 1 ∷ 0 ∷ 0x8000_0005 ∷ 0 ∷ 1 ∷ 1 ∷ 0 ∷ 0 ∷ [])
+    ∷ row (carried (literalWord 3 1 1) (seen 0x123 1 1 0 1 0)) (0x124 ∷ 1 ∷ 0x100 ∷ 0x8000_0005 ∷ 0 ∷ 0 ∷ 1 ∷ 0 ∷ 0 ∷ [])
     -- "8 MUL: .. low word to R.d, high word to H", 101H × 3; "9 DIV": 101H by 16 is 16, remainder 1
     ∷ row (carried (literalWord 8 1 3) (seen 0x123 1 1 1 1 0)) (0x124 ∷ 1 ∷ 0x303 ∷ 0 ∷ 0 ∷ 0 ∷ 1 ∷ 1 ∷ 0 ∷ [])
     ∷ row (carried (literalWord 9 1 16) (seen 0x123 1 1 1 1 0)) (0x124 ∷ 1 ∷ 16 ∷ 1 ∷ 0 ∷ 0 ∷ 1 ∷ 1 ∷ 0 ∷ [])

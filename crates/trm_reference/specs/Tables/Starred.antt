@@ -1,5 +1,5 @@
 -- Table: the starred bench cases, addresses by the address or place of a load, the others by executing words.
--- Paper: "Bench cases", the starred ones, in its order.
+-- Paper: "Bench cases", the starred ones, in its order; C by request A2.
 use Prim.Native.Nat.{ℕ, _+_, _-_, _^_}
 use mathlib.Core.List.{List, [], _∷_}
 use lib.ListN.{replicate}
@@ -24,8 +24,8 @@ placed (Device d) = 0 ∷ d ∷ []
 
 unfoldable pub starred : List Row
 starred =
-    -- * 0−1; 7FFFFFFFH+1; 80000000H+80000000H
-    row (arithmetic 3 0 1) (0xFFFF_FFFF ∷ 0 ∷ 1 ∷ 0 ∷ 1 ∷ 0 ∷ [])
+    -- * 0−1; 7FFFFFFFH+1; 80000000H+80000000H. A2: "Case 0−1 now gives C0, 7FFFFFFFH+1 still C0, and 80000000H+80000000H still C1."
+    row (arithmetic 3 0 1) (0xFFFF_FFFF ∷ 0 ∷ 1 ∷ 0 ∷ 0 ∷ 0 ∷ [])
     ∷ row (arithmetic 2 0x7FFF_FFFF 1) (0x8000_0000 ∷ 0 ∷ 1 ∷ 0 ∷ 0 ∷ 1 ∷ [])
     ∷ row (arithmetic 2 0x8000_0000 0x8000_0000) (0 ∷ 0 ∷ 0 ∷ 1 ∷ 1 ∷ 1 ∷ [])
     -- * 1 ROR 1; −1×−1; 80000000H squared

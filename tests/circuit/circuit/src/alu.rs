@@ -1,5 +1,5 @@
 // The combinational part of the data unit: aluRes with its 33 bits, the shifter's three stages, the conditions.
-// Source: "The data processing unit", "The Shifter", `cond` of "The control unit". Paper: the conditions of operation 14.
+// Source: "The data processing unit", "The Shifter", `cond` of "The control unit". Paper: the conditions of operation 14, C of A2.
 // Multiplier and divider have their own modules; their results are inputs here.
 use crate::words::{ADD, DIV, MOV, MUL, NOT, SUB};
 
@@ -39,6 +39,12 @@ pub fn result(op: u32, from: &Operands) -> u64 {
         DIV => u64::from(from.quotient),
         _ => b ^ a,
     }
+}
+
+/// C as document 02 gives it: the carry out of bit 31 of B + A for ADD, of B + not A + 1 for SUB, which is 1 for B at or above A.
+pub fn carry(op: u32, a: u32, b: u32) -> bool {
+    let (a, b) = (u64::from(if op == SUB { !a } else { a }), u64::from(b));
+    (b + a + u64::from(op == SUB)) >> 32 == 1
 }
 
 /// s3: B rotated right by A mod 32, in stages of 0-3, of 0, 4, 8 or 12, and of 0 or 16.
@@ -97,10 +103,21 @@ mod tests {
     }
 
     #[test]
-    fn s1_19_bit_32_is_the_sign_of_the_exact_sum() {
+    fn a2_8_bit_32_is_the_sign_of_the_exact_sum() {
         let sum = |a, b| result(ADD, &Operands { a, b, product: 0, quotient: 0 });
         assert_eq!(sum(0x8000_0000, 0x8000_0000), 0x1_0000_0000);
         assert_eq!(sum(1, 0x7FFF_FFFF), 0x8000_0000);
         assert_eq!(sum(0xFFFF_FFFF, 1), 0);
+    }
+
+    #[test]
+    fn a2_8_the_carry_given_is_out_of_bit_31_and_no_borrow() {
+        let words = [0, 1, 2, 5, 0xFFBF, 0xFFC0, 0x7FFF_FFFF, 0x8000_0000, 0x8000_0001, 0xFFFF_FFFE, 0xFFFF_FFFF];
+        for b in words {
+            for a in words {
+                assert_eq!(carry(ADD, a, b), b.checked_add(a).is_none(), "{b:X}H + {a:X}H");
+                assert_eq!(carry(SUB, a, b), b >= a, "{b:X}H - {a:X}H");
+            }
+        }
     }
 }

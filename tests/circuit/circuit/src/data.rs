@@ -1,7 +1,7 @@
 // The data unit's edge: regmux into the register file, the flags, H.
-// Source: "The data processing unit", regmux of "Input and Output". Paper: switches Z32, RORNZ and NZ.
+// Source: "The data processing unit", regmux of "Input and Output". Paper: switches Z32, RORNZ, NZ and CARRY.
 // The interrupt's save, RTI's flags and the condition for writing a register are missing in the text and follow document 01.
-use crate::alu::Flags;
+use crate::alu::{self, Flags};
 use crate::circuit::{Circuit, Pins};
 use crate::switches::Switch;
 use crate::wires::{Wires, BL, BR, LD};
@@ -45,8 +45,10 @@ impl Circuit {
         }
         match wires.op {
             ADD | SUB => {
-                c = result >> 32 == 1;
-                v = c ^ (result >> 31 & 1 == 1);
+                let bit_32 = result >> 32 == 1;
+                let given = self.switches.paper(Switch::Carry);
+                c = if given { alu::carry(wires.op, wires.a, wires.b) } else { bit_32 };
+                v = bit_32 ^ (result >> 31 & 1 == 1);
             }
             ROR => c = wires.rotated & 1 == 1,
             _ => (),

@@ -38,6 +38,7 @@ pub enum Switch {
     DmIo,
     Fill,
     Memory,
+    Carry,
 }
 
 /// A switch, its name, the id of its sentence in docs/CLAIMS.md, the two behaviours, and whether document 01 lists it under
@@ -63,7 +64,7 @@ const fn row(
 }
 
 /// In the order of `Switch`.
-pub const TABLE: [Row; 21] = [
+pub const TABLE: [Row; 22] = [
     row(
         Switch::Z32,
         "Z32",
@@ -217,6 +218,14 @@ pub const TABLE: [Row; 21] = [
         false,
         "local memory is a block RAM: LD 2 clocks, ST 1, status bit 3 without effect",
         "the clock table's LD 6 and ST 5, or the cache",
+    ),
+    row(
+        Switch::Carry,
+        "CARRY",
+        "A2.8",
+        false,
+        "C is bit 32 of the 33-bit sum or difference of the sign-extended words: the sign of the exact result",
+        "C of ADD is the carry out of bit 31, of SUB that B is at or above A without sign",
     ),
 ];
 

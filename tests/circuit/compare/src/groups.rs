@@ -23,7 +23,7 @@ pub const AGAIN: u64 = 25;
 pub const GROUPS: [Group; 4] = [
     Group {
         name: "S8.8 devices only",
-        weight: "evidence from the published text: listed slips, NZ, DIVNP, ADR16, IO1, RESET, HOLDREG, DMIO and FILL set aside",
+        weight: "evidence from the published text: listed slips, NZ, DIVNP, ADR16, IO1, RESET, HOLDREG, DMIO and FILL set aside, C given",
         kind: Kind { interrupts: false, memory: false },
         held: false,
         more: &[
@@ -40,8 +40,9 @@ pub const GROUPS: [Group; 4] = [
             Switch::HoldReg,
             Switch::DmIo,
             Switch::Fill,
+            Switch::Carry,
         ],
-        shows: &[Switch::Z32, Switch::RorNz, Switch::DivTop, Switch::Nz, Switch::DivNp, Switch::Fill],
+        shows: &[Switch::Z32, Switch::RorNz, Switch::DivTop, Switch::Nz, Switch::DivNp, Switch::Fill, Switch::Carry],
     },
     Group {
         name: "S2.2 held clocks",

@@ -1,5 +1,5 @@
 // The plain machine of demand 3: what a programmer sees, a flat memory, a history, clocks left and counts.
-// Paper: "The plain machine of demand 3", "Judged from history", the clock table, the instruction set.
+// Paper: "The plain machine of demand 3", "Judged from history", the clock table, the instruction set; A2 for C of ADD and SUB.
 // It has no cache, no phases and no steps; it is short, uses wide integers, and shares no code with either side.
 use crate::tally::holds;
 
@@ -248,8 +248,14 @@ impl Plain {
         let result = match word >> 14 {
             0 => a,
             1 => u32::MAX - a,
-            2 => self.exact(sb + sa),
-            3 => self.exact(sb - sa),
+            2 => {
+                self.flags[2] = u128::from(b) + u128::from(a) > u128::from(u32::MAX);
+                self.exact(sb + sa)
+            }
+            3 => {
+                self.flags[2] = u128::from(b) + (1 << 32) - u128::from(a) > u128::from(u32::MAX);
+                self.exact(sb - sa)
+            }
             4 => b & a,
             5 => b & (u32::MAX - a),
             6 => b | a,
@@ -278,8 +284,8 @@ impl Plain {
         self.registers[d] = result;
     }
 
+    /// The low word of an exact signed sum or difference; V is that it does not fit.
     fn exact(&mut self, value: i128) -> u32 {
-        self.flags[2] = value < 0;
         self.flags[3] = i32::try_from(value).is_err();
         value as u32
     }

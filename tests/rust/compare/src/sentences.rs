@@ -44,7 +44,12 @@ const PHASES: [&str; 6] = ["S2.4", "S2.8", "S2.19", "S2.19", "S2.11", "S2.5"];
 
 /// An operation 0 to 10, and its flags.
 pub fn operation(number: u32) -> String {
-    format!("{} S1.18 S1.19", OPERATIONS[number as usize])
+    let carry = match number {
+        2 => " A2.1",
+        3 => " A2.2",
+        _ => "",
+    };
+    format!("{} S1.18 S1.19{carry}", OPERATIONS[number as usize])
 }
 
 /// The word at PC and the phase that it is in; a call may be given any number as either.

@@ -1,5 +1,5 @@
 // Results and flags of the one-clock arithmetic.
-// Paper: "What a programmer sees", operations 0-7 and 10, and the paragraph on N, Z, C, V.
+// Paper: "What a programmer sees", operations 0-7 and 10, and the paragraph on N, Z, C, V; A2 for C of ADD and SUB.
 // Only ADD, SUB and ROR change C; only ADD and SUB change V.
 use crate::record::Flags;
 
@@ -37,27 +37,22 @@ impl Nz {
     }
 }
 
-/// The low word of an exact signed sum or difference; C is its sign, V that it does not fit.
-#[inline(always)]
-fn exact(flags: &mut Flags, value: i64) -> u32 {
-    flags.c = u64::from(value < 0);
-    flags.v = u64::from(value != i64::from(value as i32));
-    value as u32
-}
-
-#[inline(always)]
-fn signed(word: u32) -> i64 {
-    i64::from(word as i32)
-}
-
+/// C is the carry out of bit 31, V that the signed sum does not fit.
 #[inline(always)]
 pub fn add(flags: &mut Flags, b: u32, a: u32) -> u32 {
-    exact(flags, signed(b) + signed(a))
+    let (result, carry) = b.overflowing_add(a);
+    flags.c = u64::from(carry);
+    flags.v = u64::from((b as i32).overflowing_add(a as i32).1);
+    result
 }
 
+/// C is that B is at or above A without sign, V that the signed difference does not fit.
 #[inline(always)]
 pub fn subtract(flags: &mut Flags, b: u32, a: u32) -> u32 {
-    exact(flags, signed(b) - signed(a))
+    let result = b.wrapping_sub(a);
+    flags.c = u64::from(b >= a);
+    flags.v = u64::from((b as i32).overflowing_sub(a as i32).1);
+    result
 }
 
 #[inline(always)]

@@ -1,5 +1,5 @@
 // The bench cases of the paper, and single-instruction semantics around them.
-// Paper: "Bench cases", "What a programmer sees".
+// Paper: "Bench cases", "What a programmer sees"; A2 for C of ADD and SUB.
 // Each case sets registers in the record and executes one word.
 mod common;
 use common::*;
@@ -20,9 +20,73 @@ fn flags(n: u64, z: u64, c: u64, v: u64) -> Flags {
 
 #[test]
 fn s5_1_sums_and_differences() {
-    assert_eq!(carry_out(SUB, 0, 1), (0xFFFF_FFFF, 0, flags(1, 0, 1, 0)));
+    assert_eq!(carry_out(SUB, 0, 1), (0xFFFF_FFFF, 0, flags(1, 0, 0, 0)));
     assert_eq!(carry_out(ADD, 0x7FFF_FFFF, 1), (0x8000_0000, 0, flags(1, 0, 0, 1)));
     assert_eq!(carry_out(ADD, 0x8000_0000, 0x8000_0000), (0, 0, flags(0, 1, 1, 1)));
+}
+
+#[test]
+fn a2_1_carry_of_sums() {
+    assert_eq!(carry_out(ADD, 0xFFFF_FFFF, 1), (0, 0, flags(0, 1, 1, 0)));
+    assert_eq!(carry_out(ADD, 0xFFFF_FFFF, 0), (0xFFFF_FFFF, 0, flags(1, 0, 0, 0)));
+    assert_eq!(carry_out(ADD, 0xFFFF_FFFF, 0xFFFF_FFFF), (0xFFFF_FFFE, 0, flags(1, 0, 1, 0)));
+    assert_eq!(carry_out(ADD, 0x7FFF_FFFF, 0x8000_0000), (0xFFFF_FFFF, 0, flags(1, 0, 0, 0)));
+    assert_eq!(carry_out(ADD, 0x8000_0001, 0x7FFF_FFFF), (0, 0, flags(0, 1, 1, 0)));
+    assert_eq!(carry_out(ADD, 5, 3), (8, 0, flags(0, 0, 0, 0)));
+}
+
+#[test]
+fn a2_2_carry_of_differences() {
+    assert_eq!(carry_out(SUB, 5, 3), (2, 0, flags(0, 0, 1, 0)));
+    assert_eq!(carry_out(SUB, 3, 5), (0xFFFF_FFFE, 0, flags(1, 0, 0, 0)));
+    assert_eq!(carry_out(SUB, 0x1234, 0x1234), (0, 0, flags(0, 1, 1, 0)));
+    assert_eq!(carry_out(SUB, 0, 0), (0, 0, flags(0, 1, 1, 0)));
+    assert_eq!(carry_out(SUB, 0x8000_0000, 1), (0x7FFF_FFFF, 0, flags(0, 0, 1, 1)));
+    assert_eq!(carry_out(SUB, 0, 0x8000_0000), (0x8000_0000, 0, flags(1, 0, 0, 1)));
+    assert_eq!(carry_out(SUB, 0x7FFF_FFFF, 0xFFFF_FFFF), (0x8000_0000, 0, flags(1, 0, 0, 1)));
+    assert_eq!(carry_out(SUB, 0xFFFF_FFFF, 0x7FFF_FFFF), (0x8000_0000, 0, flags(1, 0, 1, 0)));
+    assert_eq!(carry_out(SUB, 0x8000_0003, 0x8000_0001), (2, 0, flags(0, 0, 1, 0)));
+}
+
+/// SUB of two addresses, then a branch on higher and, in a second program, on lower or same.
+#[test]
+fn a2_3_branches_compare_addresses() {
+    let pairs = [
+        (0x8000_0001, 0x7FFF_FFFF, true),
+        (0x7FFF_FFFF, 0x8000_0001, false),
+        (0x1234, 0x1234, false),
+        (0x8000_0001, 0x8000_0001, false),
+        (0xFFC0, 0xFFBF, true),
+        (0xFFBF, 0xFFC0, false),
+        (0, 0xFFFF_FFFF, false),
+        (0xFFFF_FFFF, 0, true),
+        (0xFFFF_FFFF, 0x8000_0001, true),
+        (0x8000_0001, 0xFFFF_FFFF, false),
+    ];
+    for (b, a, higher) in pairs {
+        for (condition, taken) in [(8, higher), (9, !higher)] {
+            let mut bench = Bench::new(&[register(SUB, 1, 2), branch(condition, 2)], 64);
+            (bench.record.registers[1], bench.record.registers[2]) = (b, a);
+            bench.finish();
+            let expected = if taken { (2, 4) } else { (1, 2) };
+            assert_eq!((bench.charge(), bench.record.state.pc), expected, "{b:X}H - {a:X}H, condition {condition}");
+        }
+    }
+}
+
+#[test]
+fn a2_2_an_interrupt_saves_the_carry() {
+    for (b, a, saved) in [(5, 3, 0x2000_0001), (3, 5, 0x8000_0001), (5, 5, 0x6000_0001)] {
+        let mut bench = Bench::new(&[register(SUB, 1, 2), 0x3BC00, rti(7)], 64);
+        (bench.record.registers[1], bench.record.registers[2]) = (b, a);
+        bench.record.state.status = 1;
+        bench.finish();
+        bench.tick(1, 0);
+        assert_eq!(bench.record.registers[15], saved);
+        bench.record.state.flags.c ^= 1;
+        bench.finish();
+        assert_eq!((bench.record.state.pc, bench.record.state.flags.c), (1, u64::from(saved >> 29 & 1)));
+    }
 }
 
 #[test]
@@ -60,10 +124,11 @@ fn s1_19_arithmetic_against_wide_integers() {
         let expected = if sa > 0 { (sb.div_euclid(sa) as u32, sb.rem_euclid(sa) as u32) } else { (0, b) };
         let (quotient, rest, _) = carry_out(DIV, b, a);
         assert_eq!((quotient, rest), expected);
-        for (operation, exact) in [(ADD, sb + sa), (SUB, sb - sa)] {
+        let sum = u128::from(b) + u128::from(a);
+        for (operation, exact, c) in [(ADD, sb + sa, sum >> 32 != 0), (SUB, sb - sa, b >= a)] {
             let fits = i128::from(i32::MIN) <= exact && exact <= i128::from(i32::MAX);
             let low = exact as u32;
-            let wanted = flags(u64::from(low >> 31), u64::from(low == 0), u64::from(exact < 0), u64::from(!fits));
+            let wanted = flags(u64::from(low >> 31), u64::from(low == 0), u64::from(c), u64::from(!fits));
             assert_eq!(carry_out(operation, b, a), (low, 0, wanted));
         }
     }

@@ -1,7 +1,7 @@
-// Programs for the switches about results and flags: Z32, RORNZ, DIVTOP, NZ and DIVNP.
-// Source: "The data processing unit", "The Divider". Paper: operations 0-10, bench cases, misreadings.
+// Programs for the switches about results and flags: Z32, RORNZ, DIVTOP, NZ, DIVNP and CARRY.
+// Source: "The data processing unit", "The Divider". Paper: operations 0-10, bench cases, misreadings; A2.
 // A flag shows in the listing as a branch that takes 2 clocks or 1.
-use super::{listing, quiet, Case, Expect, Row::Word, State, Step};
+use super::{listing, quiet, Case, Expect, Row::Irq, Row::Word, State, Step, LONG};
 use circuit::words::*;
 use circuit::Switch;
 
@@ -168,6 +168,136 @@ pub const CASES: &[Case] = &[
             rows: &[Word(1, 0, 1), Word(2, 1, 1), Word(35, 2, 33), Word(36, 3, 1), Word(37, 4, 1), Word(38, 5, 1)],
             accesses: &[],
             state: &[State::Register(0, 0), State::High(7)],
+        },
+    },
+    Case {
+        switch: Switch::Carry,
+        what: "0 - 1 and 5 - 3: C1 and C0 by the sign, C0 and C1 by B at or above A",
+        program: &[
+            literal(SUB, 0, 1),
+            branch(CS, 1),
+            literal(MOV, 1, 1),
+            literal(MOV, 2, 5),
+            literal(SUB, 2, 3),
+            branch(CS, 1),
+            literal(MOV, 1, 2),
+            literal(MOV, 1, 3),
+        ],
+        base: &[],
+        steps: &[quiet(8)],
+        published: listing(&[
+            Word(1, 0, 1),
+            Word(3, 1, 2),
+            Word(4, 3, 1),
+            Word(5, 4, 1),
+            Word(6, 5, 1),
+            Word(7, 6, 1),
+            Word(8, 7, 1),
+        ]),
+        paper: listing(&[
+            Word(1, 0, 1),
+            Word(2, 1, 1),
+            Word(3, 2, 1),
+            Word(4, 3, 1),
+            Word(5, 4, 1),
+            Word(7, 5, 2),
+            Word(8, 7, 1),
+        ]),
+    },
+    Case {
+        switch: Switch::Carry,
+        what: "FFFFFFFFH + 0 and FFFFFFFFH + 1: C1 and C0 by the sign, C0 and C1 by the carry",
+        program: &[
+            literal(NOT, 0, 0),
+            literal(ADD, 0, 0),
+            branch(CS, 1),
+            literal(MOV, 1, 1),
+            literal(ADD, 0, 1),
+            branch(CS, 1),
+            literal(MOV, 1, 2),
+            literal(MOV, 1, 3),
+        ],
+        base: &[],
+        steps: &[quiet(8)],
+        published: listing(&[
+            Word(1, 0, 1),
+            Word(2, 1, 1),
+            Word(4, 2, 2),
+            Word(5, 4, 1),
+            Word(6, 5, 1),
+            Word(7, 6, 1),
+            Word(8, 7, 1),
+        ]),
+        paper: listing(&[
+            Word(1, 0, 1),
+            Word(2, 1, 1),
+            Word(3, 2, 1),
+            Word(4, 3, 1),
+            Word(5, 4, 1),
+            Word(7, 5, 2),
+            Word(8, 7, 1),
+        ]),
+    },
+    Case {
+        switch: Switch::Carry,
+        what:
+            "FFFFFFC0H - FFFFFFBFH is not higher by the sign, and higher without it; equal addresses are lower or same",
+        program: &[
+            literal(NOT, 0, 63),
+            literal(NOT, 1, 64),
+            register(SUB, 0, 1),
+            branch(HI, 1),
+            literal(MOV, 2, 1),
+            branch(HI + 1, 1),
+            literal(MOV, 2, 2),
+            register(SUB, 1, 1),
+            branch(HI, 1),
+            branch(HI + 1, 1),
+            literal(MOV, 2, 3),
+            literal(MOV, 2, 4),
+        ],
+        base: &[],
+        steps: &[quiet(12)],
+        published: listing(&[
+            Word(1, 0, 1),
+            Word(2, 1, 1),
+            Word(3, 2, 1),
+            Word(4, 3, 1),
+            Word(5, 4, 1),
+            Word(7, 5, 2),
+            Word(8, 7, 1),
+            Word(9, 8, 1),
+            Word(11, 9, 2),
+            Word(12, 11, 1),
+        ]),
+        paper: listing(&[
+            Word(1, 0, 1),
+            Word(2, 1, 1),
+            Word(3, 2, 1),
+            Word(5, 3, 2),
+            Word(6, 5, 1),
+            Word(7, 6, 1),
+            Word(8, 7, 1),
+            Word(9, 8, 1),
+            Word(11, 9, 2),
+            Word(12, 11, 1),
+        ]),
+    },
+    Case {
+        switch: Switch::Carry,
+        what: "an interrupt after 5 - 5 saves Z alone, or Z and C",
+        program: &[ldpsr(1), branch(ALWAYS, 1), LONG, literal(MOV, 0, 5), literal(SUB, 0, 5), NEVER],
+        base: &[],
+        steps: &[quiet(5), Step::Clocks(1, 1, 0), quiet(1)],
+        published: Expect {
+            rows: &[Word(1, 0, 1), Word(3, 1, 2), Word(4, 3, 1), Word(5, 4, 1), Irq(6, 5, 0, 1)],
+            accesses: &[],
+            state: &[State::Register(15, 0x4000_0005)],
+        },
+        paper: Expect {
+            rows: &[Word(1, 0, 1), Word(3, 1, 2), Word(4, 3, 1), Word(5, 4, 1), Irq(6, 5, 0, 1)],
+            accesses: &[],
+            state: &[State::Register(15, 0x6000_0005)],
         },
     },
 ];
