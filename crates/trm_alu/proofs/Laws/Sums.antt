@@ -1,14 +1,15 @@
 -- The exact sum and difference of two signed words, plus 2^32: their 32-bit results and their flags.
 -- By cases of the signs the offset number is a sum of naturals; overflow is a quotient of it by 2^32, carry one of the words' own sum.
 --   off-sum, off-exact-difference   the offset numbers        sum-is, difference-is   the results
---   carry-is, overflow-is, sign-is  the flags                  carry-out, carry-no-borrow   a result with its carry
+--   quotient-flag, overflow-is      the flags                 carry-out, carry-no-borrow   a result with its carry
 --   difference-zero                 Z of SUB
 use mathlib.Core.Path.{_≡_, refl, sym, ap, _∙_}
 use mathlib.Core.Logic.{_⊎_, inl, inr}
 use mathlib.Core.Bool.{Bool, true, false}
-use Prim.Native.Nat.{ℕ, zero, suc, _+_, _-_, _*_, _/_, _%_, _^_, _<_}
+use Prim.Native.Nat.{ℕ, zero, suc, _+_, _-_, _*_, _/_, _%_, _^_, _<_, _≤_}
 use native.Mathlib.Nat.{add-zero, add-mod}
 use native.Mathlib.Omega.{arith}
+use lib.Arith.{digits-div}
 use lib.Dec.{leb, eqb}
 use lib.IntN.{ℤ, pos, negsuc, negℤ, _+ℤ_, _-ℤ_, +ℤ-comm}
 use borrow.Author.Tests.{leb-true, leb-false}
@@ -22,6 +23,12 @@ mod-same : (x y : ℕ) → (x ≡ y) ⊎ ((x + 2 ^ 32 ≡ y) ⊎ (x ≡ y + 2 ^ 
 mod-same x y (inl e) = omega arith
 mod-same x y (inr (inl e)) = omega arith
 mod-same x y (inr (inr e)) = omega arith
+
+-- a number below 2^33 is its low 32 bits, and 2^32 more if t
+low-and-bit-32 : (x : ℕ) (t : Bool) → x < 2 ^ 33 → (t ≡ true → 2 ^ 32 ≤ x) → (t ≡ false → x < 2 ^ 32)
+    → x % 2 ^ 32 + flag t * 2 ^ 32 ≡ x
+low-and-bit-32 x true h p q = omega (arith, p refl)
+low-and-bit-32 x false h p q = omega (arith, q refl)
 
 module _ (a b : ℕ) (ha : a < 2 ^ 32) (hb : b < 2 ^ 32) where
   pub off-sum : OffBy (2 ^ 32) (exactSum a b) (biased b + biased a)
@@ -76,19 +83,16 @@ module _ (a b : ℕ) (ha : a < 2 ^ 32) (hb : b < 2 ^ 32) where
 
   pub carry-out : sum a b + carryOfAdd a b * 2 ^ 32 ≡ b + a
   unfolding carryOfAdd
-  carry-out = rw sum-is (go (leb (2 ^ 32) (b + a)) refl)
-    where
-      go : (t : Bool) → leb (2 ^ 32) (b + a) ≡ t → (b + a) % 2 ^ 32 + flag t * 2 ^ 32 ≡ b + a
-      go true t = omega (arith, leb-true (2 ^ 32) (b + a) t)
-      go false t = omega (arith, leb-false (2 ^ 32) (b + a) t)
+  carry-out =
+      rw sum-is
+      (low-and-bit-32 (b + a) (leb (2 ^ 32) (b + a)) (omega arith) (leb-true (2 ^ 32) (b + a)) (leb-false (2 ^ 32) (b + a)))
 
   pub carry-no-borrow : difference a b + carryOfSub a b * 2 ^ 32 ≡ b + (2 ^ 32 - a)
   unfolding carryOfSub
-  carry-no-borrow = rw difference-is (go (leb a b) refl)
-    where
-      go : (t : Bool) → leb a b ≡ t → (b + (2 ^ 32 - a)) % 2 ^ 32 + flag t * 2 ^ 32 ≡ b + (2 ^ 32 - a)
-      go true t = omega (arith, leb-true a b t)
-      go false t = omega (arith, leb-false a b t)
+  carry-no-borrow =
+      rw difference-is
+      (low-and-bit-32 (b + (2 ^ 32 - a)) (leb a b) (omega arith) (λ (t : leb a b ≡ true). omega (arith, leb-true a b t))
+      (λ (t : leb a b ≡ false). omega (arith, leb-false a b t)))
 
   -- the difference is 0 for equal words only
   pub difference-zero : eqb (difference a b) 0 ≡ eqb a b
@@ -97,24 +101,21 @@ module _ (a b : ℕ) (ha : a < 2 ^ 32) (hb : b < 2 ^ 32) where
       (same-test ((b + (2 ^ 32 - a)) % 2 ^ 32) 0 a b (λ (e : (b + (2 ^ 32 - a)) % 2 ^ 32 ≡ 0). omega (arith, e))
       (λ (e : a ≡ b). omega (arith, e)))
 
--- a quotient that is 0 or 1 is a comparison
-pub carry-is : (m : ℕ) → m < 2 ^ 33 → m / 2 ^ 32 ≡ flag (leb (2 ^ 32) m)
-carry-is m h = go (leb (2 ^ 32) m) refl
+-- the quotient of a number below twice the divisor is a comparison
+pub quotient-flag : (d m : ℕ) → m < d + d → m / d ≡ flag (leb d m)
+quotient-flag d m h = go (leb d m) refl
   where
-    go : (t : Bool) → leb (2 ^ 32) m ≡ t → m / 2 ^ 32 ≡ flag t
-    go true t = omega (arith, leb-true (2 ^ 32) m t)
-    go false t = omega (arith, leb-false (2 ^ 32) m t)
-
-pub sign-is : (m : ℕ) → m < 2 ^ 32 → m / 2 ^ 31 ≡ flag (leb (2 ^ 31) m)
-sign-is m h = go (leb (2 ^ 31) m) refl
-  where
-    go : (t : Bool) → leb (2 ^ 31) m ≡ t → m / 2 ^ 31 ≡ flag t
-    go true t = omega (arith, leb-true (2 ^ 31) m t)
-    go false t = omega (arith, leb-false (2 ^ 31) m t)
+    go : (t : Bool) → leb d m ≡ t → m / d ≡ flag t
+    go true t =
+        let p : d ≤ m = leb-true d m t in
+        ap (λ (x : ℕ). x / d) (omega arith) ∙ digits-div 1 {m = d} {r = m - d} (omega arith)
+    go false t =
+        let p : m < d = leb-false d m t in
+        ap (λ (x : ℕ). x / d) (omega arith) ∙ digits-div 0 {m = d} {r = m} p
 
 pub overflow-is : (e : ℤ) (x : ℕ) → OffBy (2 ^ 32) e x → ((x + 2 ^ 31) / 2 ^ 32 + 1) % 2 ≡ flag (tooWide e)
 unfolding tooWide
 overflow-is (pos m) x h =
-    let q : (x + 2 ^ 31) / 2 ^ 32 ≡ 1 + m / 2 ^ 31 = omega arith in omega arith ∙ sign-is m (h .1)
+    let q : (x + 2 ^ 31) / 2 ^ 32 ≡ 1 + m / 2 ^ 31 = omega arith in omega arith ∙ quotient-flag (2 ^ 31) m (omega (arith, h .1))
 overflow-is (negsuc m) x h =
-    let q : (x + 2 ^ 31) / 2 ^ 32 + m / 2 ^ 31 ≡ 1 = omega arith in omega arith ∙ sign-is m (h .1)
+    let q : (x + 2 ^ 31) / 2 ^ 32 + m / 2 ^ 31 ≡ 1 = omega arith in omega arith ∙ quotient-flag (2 ^ 31) m (omega (arith, h .1))
