@@ -1,4 +1,4 @@
--- Laws of the flags after an operation, so that no other crate unfolds them.
+-- Laws of the flags after an operation, so that laws of other crates need not unfold how C and V are computed.
 --   flags-below          each flag is 0 or 1 if C and V were
 --   sub-carry, sub-zero  C and Z after SUB, as comparisons of B and A without sign
 use mathlib.Core.Path.{_≡_, refl, ap}

@@ -9,7 +9,7 @@ use native.Mathlib.Omega.{arith}
 use lib.Dec.{ltb}
 use borrow.Author.Tests.{lt-ltb, le-ltb, ltb-true, ltb-false}
 use Rattle.trm_alu.specs.declared.inner.divide.Divider.{Divider}
-use Rattle.trm_alu.specs.Divide.{above0, divRem, divQuot, dividerAt, divTrial, divRest, divStep}
+use Rattle.trm_alu.specs.Divide.{above0, divRem, divQuot, divTrial, divRest, divStep}
 use Rattle.trm_alu.specs.Pair.{paired, pairDivisor, pairStep}
 use Rattle.trm_alu.proofs.Laws.Modular.{parts-lt}
 use Rattle.trm_alu.proofs.Laws.Division.{above0-true, magnitude, taken-lt, rem-is, quot-is, div-step}

@@ -17,8 +17,10 @@ pub const EQ: u32 = 0;
 pub const CS: u32 = 2;
 pub const MI: u32 = 4;
 pub const VS: u32 = 6;
-/// Higher: C and not Z. One more is lower or same.
+/// Higher: C and not Z.
 pub const HI: u32 = 8;
+/// Lower or same.
+pub const LS: u32 = 9;
 pub const ALWAYS: u32 = 14;
 
 /// Operation 0-10 with a literal of ten bits.

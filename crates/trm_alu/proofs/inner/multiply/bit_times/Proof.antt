@@ -1,6 +1,6 @@
 -- A bit that is not 1 is 0.
 use Prim.Native.Nat.{ℕ, _*_, _<_}
-use mathlib.Core.Path.{_≡_, sym}
+use mathlib.Core.Path.{_≡_}
 use mathlib.Core.Logic.{_≢_}
 use native.Mathlib.Omega.{arith}
 use Rattle.trm_alu.proofs.inner.multiply.bit_times.Statement.{statement}
