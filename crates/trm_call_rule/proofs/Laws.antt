@@ -16,7 +16,7 @@ use Rattle.trm_word.specs.Charge.{chargeOf}
 use Rattle.trm_reference.specs.Geometry.{paperGeometry}
 use Rattle.trm_reference.specs.Visible.{Visible}
 use Rattle.trm_reference.specs.Access.{isLoad}
-use Rattle.trm_reference.specs.Charge.{isStepped, pastCache, uncachedCharge}
+use Rattle.trm_reference.specs.Charge.{isStepped, withoutCache, uncachedCharge}
 use Rattle.trm_cache.specs.Cache.{Cache, lineAt}
 use Rattle.trm_core.specs.declared.record.Running.{Running}
 use Rattle.trm_core.specs.Rule.{allBelow, marksOk, lineOk, phaseOk, arithmeticOk}
@@ -100,9 +100,9 @@ stepped-charge w t = go (eqb (operation w) 8) refl (eqb (operation w) 9) refl t
     go false p false q s = clash s
 
 -- 12 and 13 uncached are charged 5 or 4 waits and a clock for the access
-pub uncached-charge : (w : ℕ) (v : Visible) (n : ℕ) → pastCache w v n ≡ true → chargeOf (operation w) + 4 ≡ cond (isLoad w) 5 4 + 1
+pub uncached-charge : (w : ℕ) (v : Visible) (n : ℕ) → withoutCache w v n ≡ true → chargeOf (operation w) + 4 ≡ cond (isLoad w) 5 4 + 1
 unfolding uncachedCharge
-uncached-charge w v n t = waits-are (is-of w v n uncached (uncached-is (kindOf w v n) (sym (kind-is w v n .past) ∙ t)))
+uncached-charge w v n t = waits-are (is-of w v n uncached (uncached-is (kindOf w v n) (sym (kind-is w v n .without) ∙ t)))
 
-pub uncached-few : (w : ℕ) (v : Visible) (n : ℕ) → pastCache w v n ≡ true → chargeOf (operation w) + 4 ≤ 6
+pub uncached-few : (w : ℕ) (v : Visible) (n : ℕ) → withoutCache w v n ≡ true → chargeOf (operation w) + 4 ≤ 6
 uncached-few w v n t = rw (uncached-charge w v n t) (chosen (λ (k : ℕ). k + 1 ≤ 6) (isLoad w) (omega arith) (omega arith))

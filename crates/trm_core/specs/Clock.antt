@@ -15,7 +15,7 @@ use Rattle.trm_reference.specs.Visible.{Visible, wordAt}
 use Rattle.trm_reference.specs.Access.{isStore, target, targetBlock, targetLine, stored, loaded, Answer, silent, answerOf}
 use Rattle.trm_reference.specs.Execute.{execute}
 use Rattle.trm_reference.specs.Interrupt.{stalled, interruptChosen, interrupted}
-use Rattle.trm_reference.specs.Charge.{isStepped, throughCache, pastCache, turnsCacheOff, uncachedCharge, chargeBy}
+use Rattle.trm_reference.specs.Charge.{isStepped, throughCache, withoutCache, turnsCacheOff, uncachedCharge, chargeBy}
 use Rattle.trm_reference.specs.Trace.{Pins, After}
 use Rattle.trm_core.specs.declared.record.Running.{Running}
 use Rattle.trm_core.specs.declared.record.Scalars.{Scalars}
@@ -54,7 +54,7 @@ heldClock m s =
 
 -- uncached ST
 unfoldable pub storeAfter : ℕ → ℕ → Visible → List ℕ → List ℕ
-storeAfter w n v s = cond (pastCache w v n && isStore w) (set s (target w v n) (stored w v)) s
+storeAfter w n v s = cond (withoutCache w v n && isStore w) (set s (target w v n) (stored w v)) s
 
 module _ (G : Geometry) where
   -- the cache line that the word accesses
@@ -125,7 +125,7 @@ module _ (G : Geometry) where
   unfoldable pub firstClock : ℕ → ℕ → Scalars → Visible → Cache → List ℕ → Moved
   firstClock w n c v ca s =
       cond (isStepped w) (moved c (stepping w v 1) ca s 0 0)
-      (cond (pastCache w v n) (moved c (inPhase 4 1) ca s 0 0)
+      (cond (withoutCache w v n) (moved c (inPhase 4 1) ca s 0 0)
       (cond (turnsCacheOff w v) (writing true (firstDirty G ca) 0 c ca s)
       (cond (throughCache w v n && not (hits w n v ca)) (missing (targetLine G w v n) c ca s)
       (moved c (inPhase 5 0) ca s 0 0))))

@@ -14,7 +14,7 @@ use Rattle.trm_word.specs.Fields.{operation}
 use Rattle.trm_reference.specs.Geometry.{Geometry, burst, lineOf}
 use Rattle.trm_reference.specs.Visible.{Visible, cacheOn, wordAt}
 use Rattle.trm_reference.specs.Access.{isLoad, toMemory, toDevice}
-use Rattle.trm_reference.specs.Charge.{isStepped, isJump, takesBranch, throughCache, pastCache, turnsCacheOff}
+use Rattle.trm_reference.specs.Charge.{isStepped, isJump, takesBranch, throughCache, withoutCache, turnsCacheOff}
 use Rattle.trm_core.specs.declared.record.Counts.{Counts}
 use Rattle.trm_core.specs.declared.record.Running.{Running}
 use Rattle.trm_core.specs.Record.{Machine}
@@ -46,7 +46,7 @@ arithmeticOk w count = leb 1 count && leb count 32 && isStepped w
 
 -- "4 uncached wait, 1–5 for LD, 1–4 for ST"
 unfoldable pub waitOk : ℕ → ℕ → ℕ → Visible → Bool
-waitOk w n count v = leb 1 count && leb count (cond (isLoad w) 5 4) && pastCache w v n
+waitOk w n count v = leb 1 count && leb count (cond (isLoad w) 5 4) && withoutCache w v n
 
 -- each of full and dirty has one bit (D-07)
 unfoldable pub marksOk : Cache → ℕ → Bool

@@ -29,8 +29,8 @@ takesBranch w v = eqb (operation w) 14 && branchTaken w v
 unfoldable pub throughCache : ℕ → Visible → ℕ → Bool
 throughCache w v n = toMemory w v n && cacheOn v
 
-unfoldable pub pastCache : ℕ → Visible → ℕ → Bool
-pastCache w v n = toMemory w v n && not (cacheOn v)
+unfoldable pub withoutCache : ℕ → Visible → ℕ → Bool
+withoutCache w v n = toMemory w v n && not (cacheOn v)
 
 -- "11 clearing status bit 3": bit 10 of the word clear, status bit 3 set now and clear in the word
 unfoldable pub turnsCacheOff : ℕ → Visible → Bool
@@ -49,7 +49,7 @@ chargeBy G w v n misses evicts dirty =
     -- LD or ST, cache on, miss: 12; 22 if the old block is dirty
     cond (throughCache w v n && misses) (missCharge G evicts)
     -- LD, ST to memory, cache off: 6, 5
-    (cond (pastCache w v n) (uncachedCharge w)
+    (cond (withoutCache w v n) (uncachedCharge w)
     -- 11 clearing status bit 3: 1, and 10 for each dirty line
     (cond (turnsCacheOff w v) (chargeOf (operation w) + burst G * dirty)
     -- 14 taken, 11 with bit 10 set: 2

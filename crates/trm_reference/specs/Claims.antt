@@ -33,8 +33,8 @@ ExecutedHold = AllHold executed
 abbrev pub ComparisonsHold : Type 0
 ComparisonsHold = AllHold comparisons
 
--- A2: "The higher and lower-or-same branches then compare addresses rightly": whatever SUB w takes for B and A, a branch u under
--- condition 8 is taken after it if and only if B is above A without sign, and one under condition 9 if and only if B is at or below A.
+-- A2: "The higher and lower-or-same branches then compare addresses rightly": whatever 32-bit words SUB w takes for B and A, a branch u
+-- under condition 8 is taken after it if and only if B is above A without sign, under condition 9 if and only if B is at or below A.
 abbrev pub ComparesAddresses : Type 0
 ComparesAddresses =
     (w u : ℕ) (v : Visible) (x : ℕ) → operation w ≡ 3 → operandA w v < 2 ^ 32 → operandB w v < 2 ^ 32

@@ -28,9 +28,9 @@ module _ (s : List ℕ) (at : ℕ) where
       let none = ap (λ k. eqb k 0) (sym e) ∙ z in
       record { number = e; start = rw none; bytes = ap length (gives-none s at none); part = gives-none s at none }
 
-  pub payload-told : (bytes : ℕ) → eqb (payloadFault s at) 0 ≡ true → bytes ≡ length (payloadAt s at)
+  pub payload-bytes : (bytes : ℕ) → eqb (payloadFault s at) 0 ≡ true → bytes ≡ length (payloadAt s at)
       → PayloadPart s at (record { number = 0; start = at + 6; length = bytes })
-  payload-told bytes z l =
+  payload-bytes bytes z l =
       record {
         number = sym (eqb-true (payloadFault s at) 0 z);
         start = rw z;

@@ -175,19 +175,19 @@ module _ (G : Geometry) where
 
         go : (b : Bool) → isStore w ≡ b → Settled w (m .scalars .size) m s e
         go false z = record {
-          size = rw (is .past) (c .size);
+          size = rw (is .without) (c .size);
           memory = rw (c .memory, is .memory, z) (c .memory);
-          view = rw (is .through, is .past, c .memory, is .memory, z) (c .view);
-          sane = rw (is .through, is .past, z) (c .sane);
+          view = rw (is .through, is .without, c .memory, is .memory, z) (c .view);
+          sane = rw (is .through, is .without, z) (c .sane);
           off = λ y q. off y q;
           matches = rw (is .through, c .memory, is .through, z)
               (access-matches (e .history) (cacheOf m) (blockOf G a) false (du .others) full block (du .dirty));
         }
         go true z = record {
-          size = rw (is .past) (c .size);
+          size = rw (is .without) (c .size);
           memory = rw (c .memory, is .memory, z) (length-set (e .memory) a x ∙ c .memory);
-          view = rw (is .through, is .past, c .memory, is .memory, z) flat;
-          sane = rw (is .through, is .past, z) (sane-update G wpos (cacheOf m) s l ln′ ls′ s bc (c .sane) refl
+          view = rw (is .through, is .without, c .memory, is .memory, z) flat;
+          sane = rw (is .through, is .without, z) (sane-update G wpos (cacheOf m) s l ln′ ls′ s bc (c .sane) refl
               (stored-ok G wpos s l ln (a % G .words) x full (c .sane .each l lin)) (λ k q. refl));
           off = λ y q. off y q;
           matches = rw (is .through, c .memory, is .through, z) (access-matches (e .history) ls′ (blockOf G a) true
@@ -241,13 +241,13 @@ module _ (G : Geometry) where
         }
 
         go : (b : Bool) → isStore w ≡ b → Settled w (m .scalars .size) m s e
-        go false z = still w m s e c (is .off) (rw (is .through, is .off)) (rw (is .past, z)) (rw (c .memory, is .memory, z))
+        go false z = still w m s e c (is .off) (rw (is .through, is .off)) (rw (is .without, z)) (rw (c .memory, is .memory, z))
             (rw (c .memory, is .through, is .off)) mt
         go true z = record {
-          size = rw (is .past, z) (length-set s a x ∙ c .size);
+          size = rw (is .without, z) (length-set s a x ∙ c .size);
           memory = rw (c .memory, is .memory, z) (length-set (e .memory) a x ∙ c .memory);
-          view = rw (is .through, is .off, is .past, c .memory, is .memory, z) flat;
-          sane = rw (is .through, is .off, is .past, z) sane′;
+          view = rw (is .through, is .off, is .without, c .memory, is .memory, z) flat;
+          sane = rw (is .through, is .off, is .without, z) sane′;
           off = λ y q l hl. rw (is .through, is .off) (none l hl);
           matches = rw (is .through, is .off, c .memory, is .through) mt;
         }
@@ -256,12 +256,12 @@ module _ (G : Geometry) where
     clearing-settled : Is clearing w (visibleOf m) (m .scalars .size) → countDirty G (cacheOf m) ≡ 0 → Settled w (m .scalars .size) m s e
     unfolding cacheAfter storeAfter memoryAfter historyAfter
     clearing-settled is z = record {
-      size = rw (is .past) (c .size);
+      size = rw (is .without) (c .size);
       memory = rw (c .memory, is .memory) (c .memory);
-      view = rw (is .through, is .off, is .past, c .memory, is .memory) (λ a h.
+      view = rw (is .through, is .off, is .without, c .memory, is .memory) (λ a h.
           allEmptied-view G (c .fit .wpos) (cacheOf m) s a (any-line-in G (c .fit .lpos) (blockOf G a)) (c .sane) z
           ∙ c .view a h);
-      sane = rw (is .through, is .off, is .past) (allEmptied-sane G (c .fit .wpos) (cacheOf m) s (c .sane));
+      sane = rw (is .through, is .off, is .without) (allEmptied-sane G (c .fit .wpos) (cacheOf m) s (c .sane));
       off = λ x q l hl. rw (is .through, is .off) (rw (emptied-at G (cacheOf m) l (c .sane .wide) hl));
       matches = rw (is .through, is .off, c .memory, is .through) (λ l hl.
           rw (since-emptying G (e .history) l, emptied-at G (cacheOf m) l (c .sane .wide) hl)
@@ -273,7 +273,7 @@ module _ (G : Geometry) where
         → isUncached k ≡ false → Matches G (e .history) (cacheOf m) → Settled w (m .scalars .size) m s e
     unfolding cacheAfter storeAfter memoryAfter historyAfter
     other-settled k is no-memory no-clear no-cache no-wait mt =
-        still w m s e c (is .off ∙ no-clear) (rw (is .through, no-cache, is .off, no-clear)) (rw (is .past, no-wait))
+        still w m s e c (is .off ∙ no-clear) (rw (is .through, no-cache, is .off, no-clear)) (rw (is .without, no-wait))
         (rw (c .memory, is .memory, no-memory)) (rw (c .memory, is .through, no-cache, is .off, no-clear)) mt
 
     due-settled : (k : Kind) → Is k w (visibleOf m) (m .scalars .size)

@@ -82,7 +82,7 @@ module _ (G : Geometry) (p : List ℕ) (w : ℕ) (m : Machine) (s : List ℕ) (e
       → Agree G p (quiet (m .regs) (firstClock G w (m .scalars .size) (m .scalars) (visibleOf m) (cacheOf m) s))
       (spend G w (plainOf m e) left)
   unfolding firstClock chargeHere chargeOfKind missCharge missing hits lineFor Written Filled
-  first-cached left kq is chg pos = rw (is .stepped, is .past, is .off, is .through)
+  first-cached left kq is chg pos = rw (is .stepped, is .without, is .off, is .through)
       (go (holds ln b) refl (ln .dirty) refl (sym (is .charge G _ _ _) ∙ chg))
     where
       l : ℕ
@@ -151,14 +151,14 @@ module _ (G : Geometry) (p : List ℕ) (w : ℕ) (m : Machine) (s : List ℕ) (e
       (spend G w (plainOf m e) left)
   unfolding firstClock chargeHere chargeOfKind Written
   first-step quick left kq is chg pos = absurd (let h : 1 ≡ suc left = sym (is .charge G _ _ _) ∙ chg in omega arith)
-  first-step second left kq is chg pos = rw (is .stepped, is .past, is .off, is .through)
+  first-step second left kq is chg pos = rw (is .stepped, is .without, is .off, is .through)
       (still-move G p w m s e cm wq second (inPhase 5 0) left kq refl refl
       (last refl (due-second G w (m .scalars .size) (visibleOf m) (cacheOf m) kq)
       (let h : 2 ≡ suc left = sym (is .charge G _ _ _) ∙ chg in omega arith) mt))
   first-step longer left kq is chg pos = rw (is .stepped)
       (still-move G p w m s e cm wq longer (stepping w (visibleOf m) 1) left kq refl refl
       (arithmetic refl refl (omega arith) (let h : 33 ≡ suc left = sym (is .charge G _ _ _) ∙ chg in omega arith) pos mt))
-  first-step device left kq is chg pos = rw (is .stepped, is .past, is .off, is .through)
+  first-step device left kq is chg pos = rw (is .stepped, is .without, is .off, is .through)
       (go (isStore w) refl (sym (is .charge G _ _ _) ∙ chg))
     where
       go : (t : Bool) → isStore w ≡ t → cond t 1 2 ≡ suc left
@@ -167,11 +167,11 @@ module _ (G : Geometry) (p : List ℕ) (w : ℕ) (m : Machine) (s : List ℕ) (e
       go false z c = still-move G p w m s e cm wq device (inPhase 5 0) left kq refl refl
           (last refl (due-device G w (m .scalars .size) (visibleOf m) (cacheOf m) kq z) (omega arith) mt)
   first-step cached left kq is chg pos = first-cached left kq is chg pos
-  first-step uncached left kq is chg pos = rw (is .stepped, is .past)
+  first-step uncached left kq is chg pos = rw (is .stepped, is .without)
       (still-move G p w m s e cm wq uncached (inPhase 4 1) left kq refl refl
       (waiting refl refl (omega arith)
       (let h : suc left ≡ uncachedCharge w = sym chg ∙ is .charge G _ _ _ ∙ sym (is .cost .0) in omega arith) pos mt))
-  first-step clearing left kq is chg pos = rw (is .stepped, is .past, is .off)
+  first-step clearing left kq is chg pos = rw (is .stepped, is .without, is .off)
       (clear-step G p w m s e cm wq 0 left kq (cm .fit .tpos) (let h = sym chg ∙ is .charge G _ _ _ in omega arith) some
       (λ j hj. absurd (omega arith)))
     where

@@ -7,7 +7,7 @@ ghost use Prim.Native.Nat.{_<_};
 ghost use Rattle.trm_word.specs.Address.{storeLengthOk};
 ghost use Rattle.trm_reference.specs.Geometry.{paperGeometry};
 ghost use Rattle.trm_reference.specs.Access.{isMemory, isAccess, toMemory, toDevice, targetBlock, targetLine};
-ghost use Rattle.trm_reference.specs.Charge.{isStepped, isJump, takesBranch, throughCache, pastCache};
+ghost use Rattle.trm_reference.specs.Charge.{isStepped, isJump, takesBranch, throughCache, withoutCache};
 ghost use Rattle.trm_cache.specs.Cache.{cache};
 ghost use Rattle.trm_core.specs.Record.{gathered};
 ghost use Rattle.trm_core.specs.Clock.{lineFor, hits};
@@ -71,9 +71,9 @@ pub fn through_cache(c: Scalars, regs: &[u32; 16], w: u32, n: u64) -> bool
 }
 
 // 12 and 13 to memory with the cache off.
-pub fn past_cache(c: Scalars, regs: &[u32; 16], w: u32, n: u64) -> bool
+pub fn without_cache(c: Scalars, regs: &[u32; 16], w: u32, n: u64) -> bool
     requires { ⌜ storeLengthOk n ≡ true ⌝ }
-    ensures { λ r. ⌜ r ≡ pastCache w (gathered c (now (regs .entry))) n ⌝ }
+    ensures { λ r. ⌜ r ≡ withoutCache w (gathered c (now (regs .entry))) n ⌝ }
 {
     if !to_memory(c, regs, w, n) {
         return false;

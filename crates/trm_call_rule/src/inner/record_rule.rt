@@ -131,7 +131,7 @@ fn wait_ok(c: Scalars, regs: &[u32; 16], w: u32, n: u64, count: u64) -> bool
     if count < 1 {
         return false;
     }
-    if !super::access::past_cache(c, regs, w, n) {
+    if !super::access::without_cache(c, regs, w, n) {
         return false;
     }
     let uncached = trm_word::inner::charge::base_charge((w / 0x4000 % 16) as usize) + 4;

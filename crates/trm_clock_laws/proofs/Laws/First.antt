@@ -105,7 +105,7 @@ module _ (w n : ℕ) (c : Scalars) (rs : List ℕ) (ca : Cache) (f : Facts w n c
     pub first-second : kindOf w v n ≡ second → BecomesDue w n c rs ca
     unfolding chargeOfKind firstClock
     first-second kq = let is = is-of w v n second kq in
-        goes second kq _ refl (λ s. rw (is .stepped, is .past, is .off, is .through))
+        goes second kq _ refl (λ s. rw (is .stepped, is .without, is .off, is .through))
 
     pub first-longer : kindOf w v n ≡ longer → StepsOnce w n c rs ca
     unfolding chargeOfKind firstClock
@@ -127,7 +127,7 @@ module _ (w n : ℕ) (c : Scalars) (rs : List ℕ) (ca : Cache) (f : Facts w n c
     pub first-device-load : kindOf w v n ≡ device → isStore w ≡ false → BecomesDue w n c rs ca
     unfolding chargeOfKind firstClock
     first-device-load kq t = let is = is-of w v n device kq in
-        goes device kq _ (rw t) (λ s. rw (is .stepped, is .past, is .off, is .through))
+        goes device kq _ (rw t) (λ s. rw (is .stepped, is .without, is .off, is .through))
 
     pub first-hit-store : kindOf w v n ≡ cached → hits paperGeometry w n v ca ≡ true → isStore w ≡ true → Finishes w n c rs ca
     unfolding chargeOfKind
@@ -136,14 +136,14 @@ module _ (w n : ℕ) (c : Scalars) (rs : List ℕ) (ca : Cache) (f : Facts w n c
     pub first-hit-load : kindOf w v n ≡ cached → hits paperGeometry w n v ca ≡ true → isStore w ≡ false → BecomesDue w n c rs ca
     unfolding chargeOfKind firstClock
     first-hit-load kq h t = let is = is-of w v n cached kq in
-        goes cached kq _ (rw (h, t)) (λ s. rw (is .stepped, is .past, is .off, is .through, h))
+        goes cached kq _ (rw (h, t)) (λ s. rw (is .stepped, is .without, is .off, is .through, h))
 
     pub first-miss : kindOf w v n ≡ cached → hits paperGeometry w n v ca ≡ false → Misses w n c rs ca (targetLine paperGeometry w v n)
     unfolding chargeOfKind firstClock missCharge burst
     first-miss kq h = let is = is-of w v n cached kq in record {
       goes = goes cached kq _ (rw h (long (lineFor paperGeometry w n v ca .dirty))) (λ s. rw (
         is .stepped,
-        is .past,
+        is .without,
         is .off,
         is .through,
         h,
@@ -164,7 +164,7 @@ module _ (w n : ℕ) (c : Scalars) (rs : List ℕ) (ca : Cache) (f : Facts w n c
     pub first-wait : kindOf w v n ≡ uncached → Waits w n c rs ca
     unfolding chargeOfKind firstClock
     first-wait kq = let is = is-of w v n uncached kq in
-        (goes uncached kq _ (long (isStore w)) (λ s. rw (is .stepped, is .past, ct)), omega (arith, ct))
+        (goes uncached kq _ (long (isStore w)) (λ s. rw (is .stepped, is .without, ct)), omega (arith, ct))
       where
         long : (t : Bool) → eqb (cond t 5 6) 1 ≡ false
         long true = refl
@@ -182,7 +182,7 @@ module _ (w n : ℕ) (c : Scalars) (rs : List ℕ) (ca : Cache) (f : Facts w n c
         record {
           goes = goes clearing kq _ (ne-eqb (1 + 10 * countDirty paperGeometry ca) 1 (omega (arith, some))) (λ s. rw (
             is .stepped,
-            is .past,
+            is .without,
             is .off,
             ct,
           ));

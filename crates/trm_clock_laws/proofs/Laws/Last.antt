@@ -17,7 +17,7 @@ use Rattle.trm_reference.specs.Visible.{Visible, cacheOn}
 use Rattle.trm_reference.specs.Access.{isLoad, isStore, isAccess, isMemory, memoryIndex, placeOfWord, toMemory, target, targetBlock}
 use Rattle.trm_reference.specs.Access.{targetLine, stored, loaded, Answer, answerOf}
 use Rattle.trm_reference.specs.Execute.{execute}
-use Rattle.trm_reference.specs.Charge.{throughCache, pastCache, turnsCacheOff}
+use Rattle.trm_reference.specs.Charge.{throughCache, withoutCache, turnsCacheOff}
 use Rattle.trm_cache.specs.Cache.{Cache, view, storedTo, allEmptied}
 use Rattle.trm_core.specs.declared.record.Scalars.{Scalars}
 use Rattle.trm_core.specs.Record.{gathered, whole, ended}
@@ -65,28 +65,28 @@ module _ (w n : ℕ) (v : Visible) (ca : Cache) where
 
 module _ (w n : ℕ) (v : Visible) (s : List ℕ) where
   pub control-store : operation w ≡ 11 → storeAfter w n v s ≡ s
-  unfolding storeAfter pastCache toMemory isAccess isLoad isStore
+  unfolding storeAfter withoutCache toMemory isAccess isLoad isStore
   control-store o = rw o
 
   pub load-store : operation w ≡ 12 → storeAfter w n v s ≡ s
   unfolding storeAfter isStore
-  load-store o = rw (o, and-false (pastCache w v n))
+  load-store o = rw (o, and-false (withoutCache w v n))
 
   pub device-store : operation w ≡ 13 → (d : ℕ) → placeOfWord w v n ≡ Device d → storeAfter w n v s ≡ s
-  unfolding storeAfter pastCache toMemory isMemory
+  unfolding storeAfter withoutCache toMemory isMemory
   device-store o d p = rw (p, and-false (isAccess w))
 
   pub cached-store : operation w ≡ 13 → cacheOn v ≡ true → storeAfter w n v s ≡ s
-  unfolding storeAfter pastCache
+  unfolding storeAfter withoutCache
   cached-store o on = rw (on, and-false (toMemory w v n))
 
   pub uncached-store : operation w ≡ 13 → (a : ℕ) → placeOfWord w v n ≡ Memory a → cacheOn v ≡ false
       → storeAfter w n v s ≡ set s a (stored w v)
-  unfolding storeAfter pastCache toMemory isAccess isLoad isStore isMemory target memoryIndex
+  unfolding storeAfter withoutCache toMemory isAccess isLoad isStore isMemory target memoryIndex
   uncached-store o a p off = rw (p, o, off)
 
   pub other-store : operation w ≢ 12 → operation w ≢ 13 → storeAfter w n v s ≡ s
-  unfolding storeAfter pastCache toMemory isAccess isLoad isStore
+  unfolding storeAfter withoutCache toMemory isAccess isLoad isStore
   other-store n12 n13 = rw (ne-eqb (operation w) 12 n12, ne-eqb (operation w) 13 n13)
 
 -- only LD depends on the loaded word
@@ -108,8 +108,8 @@ execute-load w v x y h = go (eqb (operation w) 12) refl
 
 -- a clock's outcome from its parts
 
-told : (a : Answer) → a .done ≡ 1 → _≡_ {A = Answer} (record { byte = a .byte; word = a .word; done = 1 }) a
-told a e = ap (λ d. record { byte = a .byte; word = a .word; done = d }) (sym e)
+same-answer : (a : Answer) → a .done ≡ 1 → _≡_ {A = Answer} (record { byte = a .byte; word = a .word; done = 1 }) a
+same-answer a e = ap (λ d. record { byte = a .byte; word = a .word; done = d }) (sym e)
 
 pub last-made : (w n : ℕ) (c : Scalars) (rs : List ℕ) (ca : Cache) (s : List ℕ) (i x : ℕ) (r : Clocked) (rs′ : List ℕ) (ca′ : Cache)
     (s′ : List ℕ) → r .scalars ≡ ended c (execute w (gathered c rs) x) → rs′ ≡ execute w (gathered c rs) x .regs
@@ -122,4 +122,4 @@ last-made w n c rs ca s i x r rs′ ca′ s′ q1 q2 q3 q4 l b o d =
     rw (q1, q2, q3, q4, b, o, d, execute-load w (gathered c rs) x _ l)
     (ap (λ a. carried c (execute w (gathered c rs) (loaded w (gathered c rs) n i (view paperGeometry ca s (target w (gathered c rs) n))))
     (cacheAfter paperGeometry w n (gathered c rs) ca) (storeAfter w n (gathered c rs) s) a)
-    (told (answerOf w (gathered c rs) n i) (answer-done w (gathered c rs) n i)))
+    (same-answer (answerOf w (gathered c rs) n i) (answer-done w (gathered c rs) n i)))

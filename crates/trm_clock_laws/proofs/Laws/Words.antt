@@ -21,7 +21,7 @@ use Rattle.trm_reference.specs.Access.{isLoad, isStore, isAccess, isMemory, pla
 use Rattle.trm_reference.specs.Access.{deviceNumber, toMemory, toDevice, target, memoryIndex}
 use Rattle.trm_reference.specs.Access.{stored, loaded, silent, deviceAnswer, answerOf}
 use Rattle.trm_reference.specs.Execute.{execute}
-use Rattle.trm_reference.specs.Charge.{throughCache, pastCache, turnsCacheOff}
+use Rattle.trm_reference.specs.Charge.{throughCache, withoutCache, turnsCacheOff}
 use Rattle.trm_cache.specs.Cache.{Cache, view, allEmptied, writeWord}
 use Rattle.trm_core.specs.declared.record.Scalars.{Scalars}
 use Rattle.trm_core.specs.Record.{gathered, whole, ended, inPhase}
@@ -168,14 +168,14 @@ module _ (w n : ℕ) (v : Visible) where
       go true q b e f = eqb-true (operation w) 12 q
       go false q b e f = bool-clash b f e
 
-  pub past-cache : (ca : Cache) → throughCache w v n ≡ false → turnsCacheOff w v ≡ false → cacheAfter paperGeometry w n v ca ≡ ca
+  pub without-cache : (ca : Cache) → throughCache w v n ≡ false → turnsCacheOff w v ≡ false → cacheAfter paperGeometry w n v ca ≡ ca
   unfolding cacheAfter
-  past-cache ca a b = rw (a, b)
+  without-cache ca a b = rw (a, b)
 
-  pub past-store : (s : List ℕ) → pastCache w v n ≡ true → isStore w ≡ true
+  pub without-cache-store : (s : List ℕ) → withoutCache w v n ≡ true → isStore w ≡ true
       → storeAfter w n v s ≡ set s (target w v n) (stored w v)
   unfolding storeAfter
-  past-store s a b = rw (a, b)
+  without-cache-store s a b = rw (a, b)
 
 pub store-if : (w : ℕ) → isStore w ≡ true → operation w ≡ 13
 unfolding isStore

@@ -11,7 +11,7 @@ use native.Mathlib.Omega.{arith}
 use Rattle.trm_laws.proofs.Tests.{bool-clash, chosen}
 use Rattle.trm_word.specs.Fields.{operation, bit}
 use Rattle.trm_reference.specs.Geometry.{Geometry, burst}
-use Rattle.trm_reference.specs.Charge.{isStepped, throughCache, pastCache, turnsCacheOff}
+use Rattle.trm_reference.specs.Charge.{isStepped, throughCache, withoutCache, turnsCacheOff}
 use Rattle.trm_reference.specs.Visible.{Visible, wordAt}
 use Rattle.trm_reference.specs.Access.{isLoad, isStore, isAccess, isMemory, placeOfWord, deviceNumber, toDevice, target, stored, loaded}
 use Rattle.trm_reference.specs.Access.{Answer, targetBlock, targetLine, silent, deviceAnswer, answerOf}
@@ -143,7 +143,7 @@ module _ (G : Geometry) where
   unfolding advance firstClock missing
   advance-leaves w n c v ca s =
       chosen (Leaves c) (eqb (c .running .phase) 0)
-      (chosen (Leaves c) (isStepped w) (leaves-moved c _ _ _ 0 0) (chosen (Leaves c) (pastCache w v n) (leaves-moved c _ _ _ 0 0)
+      (chosen (Leaves c) (isStepped w) (leaves-moved c _ _ _ 0 0) (chosen (Leaves c) (withoutCache w v n) (leaves-moved c _ _ _ 0 0)
       (chosen (Leaves c) (turnsCacheOff w v) (leaves-writing true (firstDirty G ca) 0 c ca s)
       (chosen (Leaves c) (throughCache w v n && not (hits G w n v ca))
       (chosen (Leaves c) (lineAt G ca (targetLine G w v n) .dirty) (leaves-moved c _ _ _ 0 0) (leaves-moved c _ _ _ 0 0))

@@ -17,7 +17,7 @@ use Rattle.trm_reference.specs.Visible.{Visible, cacheOn, wordAt}
 use Rattle.trm_reference.specs.Access.{isLoad, isStore, target, targetLine, stored, loaded, Answer, silent, answerOf}
 use Rattle.trm_reference.specs.Execute.{execute}
 use Rattle.trm_reference.specs.Interrupt.{stalled, interruptChosen, interrupted}
-use Rattle.trm_reference.specs.Charge.{throughCache, pastCache, turnsCacheOff}
+use Rattle.trm_reference.specs.Charge.{throughCache, withoutCache, turnsCacheOff}
 use Rattle.trm_reference.specs.Trace.{After}
 use Rattle.trm_reference.proofs.Laws.Execute.{Narrow, execute-narrow, execute-on, execute-regs, interrupted-narrow, interrupted-on}
 use Rattle.trm_reference.proofs.Laws.Execute.{interrupted-regs}
@@ -216,7 +216,7 @@ module _ (G : Geometry) (w n : ℕ) (v : Visible) (x : ℕ) (ca : Cache) (fit : 
 
 store-after : (G : Geometry) (w n : ℕ) (v : Visible) (s : List ℕ) → length (storeAfter w n v s) ≡ length s
 unfolding storeAfter
-store-after G w n v s = go (pastCache w v n && isStore w)
+store-after G w n v s = go (withoutCache w v n && isStore w)
   where
     go : (t : Bool) → length (cond t (set s (target w v n) (stored w v)) s) ≡ length s
     go true = length-set s (target w v n) (stored w v)

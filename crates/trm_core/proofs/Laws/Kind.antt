@@ -16,7 +16,8 @@ use Rattle.trm_reference.specs.Geometry.{Geometry, burst}
 use Rattle.trm_reference.specs.Visible.{Visible, cacheOn}
 use Rattle.trm_reference.specs.Access.{isLoad, isStore, isAccess, isMemory, placeOfWord, toMemory, toDevice}
 use Rattle.trm_reference.specs.Execute.{branchTaken}
-use Rattle.trm_reference.specs.Charge.{isStepped, isJump, takesBranch, throughCache, pastCache, turnsCacheOff, missCharge, uncachedCharge}
+use Rattle.trm_reference.specs.Charge.{isStepped, isJump, takesBranch, throughCache, withoutCache, turnsCacheOff, missCharge}
+use Rattle.trm_reference.specs.Charge.{uncachedCharge}
 use Rattle.trm_reference.specs.Charge.{chargeBy}
 use Rattle.trm_core.specs.Rule.{allBelow}
 use Rattle.trm_core.proofs.Laws.Fit.{below-all}
@@ -100,7 +101,7 @@ pub record Is (k : Kind) (w : ℕ) (v : Visible) (n : ℕ) : Type 0 where
   pub memory : toMemory w v n ≡ inMemory k
   pub device : toDevice w v n ≡ isDevice k
   pub through : throughCache w v n ≡ isCached k
-  pub past : pastCache w v n ≡ isUncached k
+  pub without : withoutCache w v n ≡ isUncached k
   pub off : turnsCacheOff w v ≡ isClearing k
   pub twice : takesBranch w v || isJump w || eqb (operation w) 15 ≡ isSecond k
   pub on : CacheBy k (cacheOn v)
@@ -142,59 +143,59 @@ operation-is o h = go (eqb o 8) refl (eqb o 9) refl (eqb o 11) refl (eqb o 12) r
     go false p false q false r false s false t false u false x y = other p q r s t u x (eqb-true (chargeOf o) 1 y)
 
 -- the record of facts from its fields in order
-told : {k : Kind} {w : ℕ} {v : Visible} {n : ℕ} → isStepped w ≡ isLonger k → toMemory w v n ≡ inMemory k → toDevice w v n ≡ isDevice k
-    → throughCache w v n ≡ isCached k → pastCache w v n ≡ isUncached k → turnsCacheOff w v ≡ isClearing k
+facts : {k : Kind} {w : ℕ} {v : Visible} {n : ℕ} → isStepped w ≡ isLonger k → toMemory w v n ≡ inMemory k → toDevice w v n ≡ isDevice k
+    → throughCache w v n ≡ isCached k → withoutCache w v n ≡ isUncached k → turnsCacheOff w v ≡ isClearing k
     → takesBranch w v || isJump w || eqb (operation w) 15 ≡ isSecond k → CacheBy k (cacheOn v) → CostBy k w
     → ((G : Geometry) (misses evicts : Bool) (dirty : ℕ)
     → chargeBy G w v n misses evicts dirty ≡ chargeOfKind G k (isStore w) misses evicts dirty) → Is k w v n
-told a b c d e f g h i j =
-    record { stepped = a; memory = b; device = c; through = d; past = e; off = f; twice = g; on = h; cost = i; charge = j }
+facts a b c d e f g h i j =
+    record { stepped = a; memory = b; device = c; through = d; without = e; off = f; twice = g; on = h; cost = i; charge = j }
 
 pub kind-is : (w : ℕ) (v : Visible) (n : ℕ) → Is (kindOf w v n) w v n
-unfolding kindOf isStepped isLoad isStore isAccess toMemory toDevice throughCache pastCache turnsCacheOff takesBranch isJump
+unfolding kindOf isStepped isLoad isStore isAccess toMemory toDevice throughCache withoutCache turnsCacheOff takesBranch isJump
     chargeBy chargeOfKind uncachedCharge
 kind-is w v n = by (operation-is (operation w) (mod-lt (w / 2 ^ 14) {m = 2 ^ 4} (omega arith)))
   where
     load : operation w ≡ 12 → (me on : Bool) → isMemory (placeOfWord w v n) ≡ me → cacheOn v ≡ on → Is (kindOf w v n) w v n
-    load o true true p q = rw (o, p, q) (told (rw o) (rw (o, p)) (rw (o, p)) (rw (o, p, q)) (rw (o, p, q)) (rw o) (rw o) q (rw o)
+    load o true true p q = rw (o, p, q) (facts (rw o) (rw (o, p)) (rw (o, p)) (rw (o, p, q)) (rw (o, p, q)) (rw o) (rw o) q (rw o)
         (λ G a b d. rw (o, p, q)))
-    load o true false p q = rw (o, p, q) (told (rw o) (rw (o, p)) (rw (o, p)) (rw (o, p, q)) (rw (o, p, q)) (rw o) (rw o) q (rw o, rw o)
+    load o true false p q = rw (o, p, q) (facts (rw o) (rw (o, p)) (rw (o, p)) (rw (o, p, q)) (rw (o, p, q)) (rw o) (rw o) q (rw o, rw o)
         (λ G a b d. rw (o, p, q)))
-    load o false on p q = rw (o, p) (told (rw o) (rw (o, p)) (rw (o, p)) (rw (o, p)) (rw (o, p)) (rw o) (rw o) tt (rw o)
+    load o false on p q = rw (o, p) (facts (rw o) (rw (o, p)) (rw (o, p)) (rw (o, p)) (rw (o, p)) (rw o) (rw o) tt (rw o)
         (λ G a b d. rw (o, p)))
 
     store : operation w ≡ 13 → (me on : Bool) → isMemory (placeOfWord w v n) ≡ me → cacheOn v ≡ on → Is (kindOf w v n) w v n
-    store o true true p q = rw (o, p, q) (told (rw o) (rw (o, p)) (rw (o, p)) (rw (o, p, q)) (rw (o, p, q)) (rw o) (rw o) q (rw o)
+    store o true true p q = rw (o, p, q) (facts (rw o) (rw (o, p)) (rw (o, p)) (rw (o, p, q)) (rw (o, p, q)) (rw o) (rw o) q (rw o)
         (λ G a b d. rw (o, p, q)))
-    store o true false p q = rw (o, p, q) (told (rw o) (rw (o, p)) (rw (o, p)) (rw (o, p, q)) (rw (o, p, q)) (rw o) (rw o) q (rw o, rw o)
+    store o true false p q = rw (o, p, q) (facts (rw o) (rw (o, p)) (rw (o, p)) (rw (o, p, q)) (rw (o, p, q)) (rw o) (rw o) q (rw o, rw o)
         (λ G a b d. rw (o, p, q)))
-    store o false on p q = rw (o, p) (told (rw o) (rw (o, p)) (rw (o, p)) (rw (o, p)) (rw (o, p)) (rw o) (rw o) tt (rw o)
+    store o false on p q = rw (o, p) (facts (rw o) (rw (o, p)) (rw (o, p)) (rw (o, p)) (rw (o, p)) (rw o) (rw o) tt (rw o)
         (λ G a b d. rw (o, p)))
 
     control : operation w ≡ 11 → (ten : Bool) → isSet (bit 10 w) ≡ ten → (on : Bool) → cacheOn v ≡ on → (keeps : Bool)
         → isSet (bit 3 w) ≡ keeps → Is (kindOf w v n) w v n
-    control o true p on q keeps r = rw (o, p) (told (rw o) (rw o) (rw o) (rw o) (rw o) (rw (o, p)) (rw (o, p)) tt tt
+    control o true p on q keeps r = rw (o, p) (facts (rw o) (rw o) (rw o) (rw o) (rw o) (rw (o, p)) (rw (o, p)) tt tt
         (λ G a b d. rw (o, p)))
-    control o false p false q keeps r = rw (o, p, q) (told (rw o) (rw o) (rw o) (rw o) (rw o) (rw (o, p, q)) (rw (o, p)) tt tt
+    control o false p false q keeps r = rw (o, p, q) (facts (rw o) (rw o) (rw o) (rw o) (rw o) (rw (o, p, q)) (rw (o, p)) tt tt
         (λ G a b d. rw (o, p, q)))
-    control o false p true q true r = rw (o, p, q, r) (told (rw o) (rw o) (rw o) (rw o) (rw o) (rw (o, p, q, r)) (rw (o, p)) tt tt
+    control o false p true q true r = rw (o, p, q, r) (facts (rw o) (rw o) (rw o) (rw o) (rw o) (rw (o, p, q, r)) (rw (o, p)) tt tt
         (λ G a b d. rw (o, p, q, r)))
-    control o false p true q false r = rw (o, p, q, r) (told (rw o) (rw o) (rw o) (rw o) (rw o) (rw (o, p, q, r)) (rw (o, p)) q tt
+    control o false p true q false r = rw (o, p, q, r) (facts (rw o) (rw o) (rw o) (rw o) (rw o) (rw (o, p, q, r)) (rw (o, p)) q tt
         (λ G a b d. rw (o, p, q, r)))
 
     branch : operation w ≡ 14 → (taken : Bool) → branchTaken w v ≡ taken → Is (kindOf w v n) w v n
-    branch o true p = rw (o, p) (told (rw o) (rw o) (rw o) (rw o) (rw o) (rw o) (rw (o, p)) tt tt (λ G a b d. rw (o, p)))
-    branch o false p = rw (o, p) (told (rw o) (rw o) (rw o) (rw o) (rw o) (rw o) (rw (o, p)) tt tt (λ G a b d. rw (o, p)))
+    branch o true p = rw (o, p) (facts (rw o) (rw o) (rw o) (rw o) (rw o) (rw o) (rw (o, p)) tt tt (λ G a b d. rw (o, p)))
+    branch o false p = rw (o, p) (facts (rw o) (rw o) (rw o) (rw o) (rw o) (rw o) (rw (o, p)) tt tt (λ G a b d. rw (o, p)))
 
     by : Operation (operation w) → Is (kindOf w v n) w v n
-    by (is8 o) = rw o (told (rw o) (rw o) (rw o) (rw o) (rw o) (rw o) (rw o) tt (rw o) (λ G a b d. rw o))
-    by (is9 o) = rw o (told (rw o) (rw o) (rw o) (rw o) (rw o) (rw o) (rw o) tt (rw o) (λ G a b d. rw o))
+    by (is8 o) = rw o (facts (rw o) (rw o) (rw o) (rw o) (rw o) (rw o) (rw o) tt (rw o) (λ G a b d. rw o))
+    by (is9 o) = rw o (facts (rw o) (rw o) (rw o) (rw o) (rw o) (rw o) (rw o) tt (rw o) (λ G a b d. rw o))
     by (is11 o) = control o (isSet (bit 10 w)) refl (cacheOn v) refl (isSet (bit 3 w)) refl
     by (is12 o) = load o (isMemory (placeOfWord w v n)) (cacheOn v) refl refl
     by (is13 o) = store o (isMemory (placeOfWord w v n)) (cacheOn v) refl refl
     by (is14 o) = branch o (branchTaken w v) refl
-    by (is15 o) = rw o (told (rw o) (rw o) (rw o) (rw o) (rw o) (rw o) (rw o) tt tt (λ G a b d. rw o))
-    by (other a b c d e f g one) = rw (a, b, c, d, e, f, g) (told (rw (a, b)) (rw (d, e)) (rw (d, e)) (rw (d, e)) (rw (d, e)) (rw c)
+    by (is15 o) = rw o (facts (rw o) (rw o) (rw o) (rw o) (rw o) (rw o) (rw o) tt tt (λ G a b d. rw o))
+    by (other a b c d e f g one) = rw (a, b, c, d, e, f, g) (facts (rw (a, b)) (rw (d, e)) (rw (d, e)) (rw (d, e)) (rw (d, e)) (rw c)
         (rw (c, f, g)) tt tt (λ G i j k. rw (c, d, e, f, one)))
 
 -- every test of a word whose kind is known

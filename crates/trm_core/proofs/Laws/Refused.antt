@@ -20,7 +20,7 @@ use Rattle.trm_reference.specs.Execute.{operandA, operandB, calculated, statusS
 use Rattle.trm_reference.specs.Execute.{branched, called, execute}
 use Rattle.trm_reference.specs.Interrupt.{stalled, interruptRaised, interruptChosen, savedWord, interrupted}
 use Rattle.trm_reference.specs.History.{howMany}
-use Rattle.trm_reference.specs.Charge.{isStepped, isJump, takesBranch, throughCache, pastCache, turnsCacheOff, missCharge}
+use Rattle.trm_reference.specs.Charge.{isStepped, isJump, takesBranch, throughCache, withoutCache, turnsCacheOff, missCharge}
 use Rattle.trm_reference.specs.Charge.{uncachedCharge, chargeBy}
 use Rattle.trm_reference.specs.Trace.{pinsOf, clocks}
 use Rattle.trm_cache.specs.Cache.{lineAt, holds, lineView, view, writeWord, fillWord, countDirty, lowest, firstDirty, emptyTo}
@@ -55,7 +55,7 @@ unfolding test howMany storeLengthOk signed word product lowWord highWord partia
     lineOf registerIndex register withRegister cacheOn withMode nextPc wordAt isLoad isStore addressOf placeOfWord isMemory
     memoryIndex deviceNumber isAccess toMemory toDevice target targetBlock targetLine stored loaded deviceAnswer answerOf operandA
     operandB calculated statusSet returned jumped branchTaken branchTarget branched called execute stalled interruptRaised
-    interruptChosen savedWord interrupted isStepped isJump takesBranch throughCache pastCache turnsCacheOff missCharge
+    interruptChosen savedWord interrupted isStepped isJump takesBranch throughCache withoutCache turnsCacheOff missCharge
     uncachedCharge chargeBy pinsOf clocks lineAt holds lineView view writeWord fillWord countDirty lowest firstDirty emptyTo
     allEmptied productAt remainderAt quotientAt resetOf lineFor hits chargeHere isLast cacheAfter storeAfter finish written writing
     filling missing firstClock writeLine advance worked unheld heldClock clockOf widthsOk countsOk registersOk arithmeticOk

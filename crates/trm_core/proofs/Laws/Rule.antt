@@ -14,7 +14,7 @@ use Rattle.trm_laws.proofs.Tests.{bool-clash, _&t_, both, all3, all4, test-at}
 use Rattle.trm_reference.specs.Geometry.{Geometry, burst, lineOf}
 use Rattle.trm_reference.specs.Visible.{Visible, cacheOn, wordAt}
 use Rattle.trm_reference.specs.Access.{isLoad, targetLine, toMemory}
-use Rattle.trm_reference.specs.Charge.{isStepped, throughCache, pastCache, turnsCacheOff, uncachedCharge}
+use Rattle.trm_reference.specs.Charge.{isStepped, throughCache, withoutCache, turnsCacheOff, uncachedCharge}
 use Rattle.trm_reference.proofs.Laws.Execute.{Narrow}
 use Rattle.trm_core.specs.declared.record.Counts.{Counts}
 use Rattle.trm_core.specs.declared.record.Running.{Running}
@@ -100,7 +100,7 @@ phase-ok G w n k r v ca is ok (waiting q ph one top) =
     rw (test-at ph 0, test-at ph 1, test-at ph 2, test-at ph 3, test-at ph 4)
     (le-leb 1 (r .count) one
     &t le-leb (r .count) (cond (isLoad w) 5 4) (omega (arith, waits-are (subst (λ j. Is j w v n) q is)))
-    &t (is .past ∙ ap isUncached q))
+    &t (is .without ∙ ap isUncached q))
 phase-ok G w n k r v ca is ok (due ph ct dk) =
     rw (test-at ph 0, test-at ph 1, test-at ph 2, test-at ph 3, test-at ph 4)
     (eq-eqb (r .phase) 5 ph &t eq-eqb (r .count) 0 ct &t dk)
@@ -233,8 +233,9 @@ phase-from G w n k r v ca is ok t = go (eqb (r .phase) 0) refl (eqb (r .phase) 1
     go false a false p true q d x e y = write-from G w n k r v ca is ok (eqb-true (r .phase) 2 q)
     go false a false p false q true x e y = all3 (ltb (r .count) (burst G)) (throughCache w v n) (not (lineFor G w n v ca .full)) (λ i s f.
         refill (cached-is k (sym (is .through) ∙ s)) (eqb-true (r .phase) 3 x) (ltb-true (r .count) (burst G) i) (not-true _ f))
-    go false a false p false q false x true y = all3 (leb 1 (r .count)) (leb (r .count) (cond (isLoad w) 5 4)) (pastCache w v n) (λ i j s.
-        let kq = uncached-is k (sym (is .past) ∙ s) in waiting kq (eqb-true (r .phase) 4 y) (leb-true 1 (r .count) i)
+    go false a false p false q false x true y = all3 (leb 1 (r .count)) (leb (r .count) (cond (isLoad w) 5 4)) (withoutCache w v n)
+        (λ i j s.
+        let kq = uncached-is k (sym (is .without) ∙ s) in waiting kq (eqb-true (r .phase) 4 y) (leb-true 1 (r .count) i)
         (omega (arith, leb-true (r .count) (cond (isLoad w) 5 4) j, waits-are (subst (λ j. Is j w v n) kq is))))
     go false a false p false q false x false y = all3 (eqb (r .phase) 5) (eqb (r .count) 0) (dueOk G w n v ca) (λ i j s.
         due (eqb-true (r .phase) 5 i) (eqb-true (r .count) 0 j) s)

@@ -17,7 +17,7 @@ use Rattle.trm_reference.specs.Execute.{operandA, operandB, calculated, statusS
 use Rattle.trm_reference.specs.Execute.{branched, called, execute}
 use Rattle.trm_reference.specs.Interrupt.{stalled, interruptRaised, interruptChosen, savedWord, interrupted}
 use Rattle.trm_reference.specs.History.{since, lastIn, storedSince, lastDirty, refillsNow, dirtyNow, howMany, dirtyLines}
-use Rattle.trm_reference.specs.Charge.{isStepped, isJump, takesBranch, throughCache, pastCache, turnsCacheOff, missCharge}
+use Rattle.trm_reference.specs.Charge.{isStepped, isJump, takesBranch, throughCache, withoutCache, turnsCacheOff, missCharge}
 use Rattle.trm_reference.specs.Charge.{uncachedCharge, chargeBy}
 use Rattle.trm_reference.specs.Trace.{pinsOf, clocks}
 use Rattle.trm_reference.specs.Reference.{referenceReset, misses, evicts, charge, refillOver, writebackOver, memoryAfter}
@@ -43,7 +43,7 @@ unfolding same signed word product lowWord highWord partialProduct mulAfter abov
     deviceNumber isAccess toMemory toDevice target targetBlock targetLine stored loaded deviceAnswer answerOf operandA operandB
     calculated statusSet returned jumped branchTaken branchTarget branched called execute stalled interruptRaised interruptChosen
     savedWord interrupted since lastIn storedSince lastDirty refillsNow dirtyNow howMany dirtyLines isStepped isJump takesBranch
-    throughCache pastCache turnsCacheOff missCharge uncachedCharge chargeBy pinsOf clocks referenceReset misses evicts charge
+    throughCache withoutCache turnsCacheOff missCharge uncachedCharge chargeBy pinsOf clocks referenceReset misses evicts charge
     refillOver writebackOver memoryAfter historyAfter carryOut spend takeOff referenceHeld referenceInterrupt referenceUnheld
     referenceClock lineAt holds lineView view writeWord fillWord countDirty lowest firstDirty emptyTo allEmptied productAt
     remainderAt quotientAt resetOf lineFor hits chargeHere isLast cacheAfter storeAfter finish written writing filling missing

@@ -95,7 +95,7 @@ module _ (G : Geometry) (w n : ℕ) (v : Visible) (ok : Fit G n) (c : Scalars) (
   first-second : First second
   unfolding firstClock chargeOfKind
   first-second kq old oq more = let is = is-of w v n second kq in
-      rw (is .stepped, is .past, is .off, is .through) (soon old (due-second G w n v ca kq) (sym (charge-is G w n v ca second kq) ∙ oq))
+      rw (is .stepped, is .without, is .off, is .through) (soon old (due-second G w n v ca kq) (sym (charge-is G w n v ca second kq) ∙ oq))
 
   first-longer : First longer
   unfolding firstClock chargeOfKind
@@ -105,7 +105,7 @@ module _ (G : Geometry) (w n : ℕ) (v : Visible) (ok : Fit G n) (c : Scalars) (
   first-device : First device
   unfolding firstClock chargeOfKind
   first-device kq old oq more = let is = is-of w v n device kq in
-      rw (is .stepped, is .past, is .off, is .through) (go (isStore w) refl (sym (charge-is G w n v ca device kq) ∙ oq))
+      rw (is .stepped, is .without, is .off, is .through) (go (isStore w) refl (sym (charge-is G w n v ca device kq) ∙ oq))
     where
       go : (t : Bool) → isStore w ≡ t → _≡_ {A = ℕ} (cond t 1 2) old → Goes G w n v c old (moved c (inPhase 5 0) ca s 0 0)
       go true q e = absurd (more (sym e))
@@ -114,7 +114,7 @@ module _ (G : Geometry) (w n : ℕ) (v : Visible) (ok : Fit G n) (c : Scalars) (
   first-cached : First cached
   unfolding firstClock chargeOfKind
   first-cached kq old oq more = let is = is-of w v n cached kq in
-      rw (is .stepped, is .past, is .off, is .through) (go (hits G w n v ca) refl (sym (charge-is G w n v ca cached kq) ∙ oq))
+      rw (is .stepped, is .without, is .off, is .through) (go (hits G w n v ca) refl (sym (charge-is G w n v ca cached kq) ∙ oq))
     where
       charged : (t : Bool) → _≡_ {A = ℕ} (cond t 1 2) old → 2 ≡ old
       charged true e = absurd (more (sym e))
@@ -130,13 +130,13 @@ module _ (G : Geometry) (w n : ℕ) (v : Visible) (ok : Fit G n) (c : Scalars) (
   first-uncached kq old oq more = let is = is-of w v n uncached kq in
       let all : uncachedCharge w ≡ old = is .cost .0 ∙ sym (charge-is G w n v ca uncached kq) ∙ oq in
       let some : 1 < uncachedCharge w = (unfold uncachedCharge in omega arith) in
-      rw (is .stepped, is .past) (waits old 1 kq (omega arith) some (omega arith))
+      rw (is .stepped, is .without) (waits old 1 kq (omega arith) some (omega arith))
 
   first-clearing : First clearing
   unfolding firstClock chargeOfKind
   first-clearing kq old oq more = let is = is-of w v n clearing kq in
       let all : 1 + burst G * countDirty G ca ≡ old = sym (charge-is G w n v ca clearing kq) ∙ oq in
-      rw (is .stepped, is .past, is .off) (clear-goes G w n v ok c ca s wd ls len 0 old kq (ok .tpos)
+      rw (is .stepped, is .without, is .off) (clear-goes G w n v ok c ca s wd ls len 0 old kq (ok .tpos)
       (λ z. more (omega (arith, ap (λ x. burst G * x) z))) (omega arith))
 
   first-goes : (k : Kind) → First k

@@ -16,7 +16,7 @@ use Rattle.trm_reference.specs.Access.{toMemory, toDevice, target, targetBlock,
 use Rattle.trm_reference.specs.Execute.{operandA, operandB, calculated, statusSet, returned, jumped, branchTaken, branchTarget}
 use Rattle.trm_reference.specs.Execute.{branched, called, execute}
 use Rattle.trm_reference.specs.Interrupt.{stalled, interruptRaised, interruptChosen, savedWord, interrupted}
-use Rattle.trm_reference.specs.Charge.{isStepped, isJump, takesBranch, throughCache, pastCache, turnsCacheOff, missCharge}
+use Rattle.trm_reference.specs.Charge.{isStepped, isJump, takesBranch, throughCache, withoutCache, turnsCacheOff, missCharge}
 use Rattle.trm_reference.specs.Charge.{uncachedCharge, chargeBy}
 use Rattle.trm_reference.specs.History.{howMany}
 use Rattle.trm_reference.specs.Trace.{clocks, endOf}
@@ -44,7 +44,7 @@ unfolding test same storeLengthOk signed word product lowWord highWord partialPr
     lineOf registerIndex register withRegister cacheOn withMode nextPc wordAt isLoad isStore addressOf placeOfWord isMemory
     memoryIndex deviceNumber isAccess toMemory toDevice target targetBlock targetLine stored loaded deviceAnswer answerOf operandA
     operandB calculated statusSet returned jumped branchTaken branchTarget branched called execute stalled interruptRaised
-    interruptChosen savedWord interrupted isStepped isJump takesBranch throughCache pastCache turnsCacheOff missCharge
+    interruptChosen savedWord interrupted isStepped isJump takesBranch throughCache withoutCache turnsCacheOff missCharge
     uncachedCharge chargeBy howMany clocks endOf lineAt holds lineView view writeWord fillWord below countDirty lowest firstDirty emptyTo
     allEmptied productAt remainderAt quotientAt resetOf lineFor hits chargeHere isLast cacheAfter storeAfter finish written
     writing filling missing firstClock writeLine advance worked unheld heldClock clockOf allAtMost payloadAt wordsAt begins recordsOf

@@ -1,9 +1,9 @@
 -- What executing a word or taking an interrupt preserves: the widths of fields, the cache bit (with one exception), the register count.
 -- Each property passes through `cond`, so a law is one proof per operation, in the order of `execute`.
-use Prim.Native.Nat.{ℕ, _+_, _^_, _<_}
+use Prim.Native.Nat.{ℕ, _+_, _<_}
 use mathlib.Core.Path.{_≡_, refl}
 use mathlib.Core.Bool.{Bool, true, false, cond}
-use lib.Dec.{ltb, leb, eqb}
+use lib.Dec.{ltb, eqb}
 use lib.ListN.{length, length-set}
 use borrow.Author.Tests.{not-false}
 use native.Mathlib.Omega.{arith}

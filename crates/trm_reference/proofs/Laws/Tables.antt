@@ -19,7 +19,7 @@ use Rattle.trm_reference.specs.Execute.{branched, called, execute}
 use Rattle.trm_reference.specs.Interrupt.{stalled, interruptRaised, interruptChosen, savedWord, interrupted}
 use Rattle.trm_reference.specs.History.{since, lastIn, storedSince, lastDirty, refillsNow, dirtyNow, howMany, dirtyLines}
 use Rattle.trm_reference.specs.History.{refillsIn, writebacksIn}
-use Rattle.trm_reference.specs.Charge.{isJump, takesBranch, throughCache, pastCache, turnsCacheOff, missCharge}
+use Rattle.trm_reference.specs.Charge.{isJump, takesBranch, throughCache, withoutCache, turnsCacheOff, missCharge}
 use Rattle.trm_reference.specs.Charge.{uncachedCharge, chargeBy}
 use Rattle.trm_reference.specs.Trace.{pinsOf, clocks, endOf, outsOf, finishedIn}
 use Rattle.trm_reference.specs.Reference.{referenceReset, misses, evicts, charge, refillOver, writebackOver, memoryAfter}
@@ -67,7 +67,7 @@ unfolding test same
     operandA operandB calculated statusSet returned jumped branchTaken branchTarget branched called execute
     stalled interruptRaised interruptChosen savedWord interrupted since lastIn storedSince lastDirty refillsNow dirtyNow howMany
     dirtyLines refillsIn writebacksIn
-    isJump takesBranch throughCache pastCache turnsCacheOff missCharge uncachedCharge chargeBy pinsOf clocks endOf outsOf
+    isJump takesBranch throughCache withoutCache turnsCacheOff missCharge uncachedCharge chargeBy pinsOf clocks endOf outsOf
     finishedIn
     referenceReset misses evicts charge refillOver writebackOver memoryAfter historyAfter carryOut spend takeOff referenceHeld
     referenceInterrupt referenceUnheld referenceClock

@@ -14,7 +14,7 @@ use Rattle.trm_reference.specs.Visible.{Visible, wordAt}
 use Rattle.trm_reference.specs.Access.{isStore, placeOfWord, toDevice, deviceNumber, targetBlock, targetLine, stored}
 use Rattle.trm_reference.specs.Access.{Answer, silent, deviceAnswer, answerOf}
 use Rattle.trm_reference.specs.Interrupt.{stalled, interruptChosen}
-use Rattle.trm_reference.specs.Charge.{isStepped, throughCache, pastCache, turnsCacheOff}
+use Rattle.trm_reference.specs.Charge.{isStepped, throughCache, withoutCache, turnsCacheOff}
 use Rattle.trm_reference.specs.Trace.{Pins, After}
 use Rattle.trm_cache.specs.Cache.{Cache, lineAt, cleaned, firstDirty, writeWord}
 use Rattle.trm_core.specs.declared.record.Scalars.{Scalars}
@@ -50,7 +50,7 @@ missing-adds l c ca s = chosen (Adds c) (lineAt paperGeometry ca l .dirty)
 first-adds : (w n : ℕ) (c : Scalars) (v : Visible) (ca : Cache) (s : List ℕ) → Adds c (firstClock paperGeometry w n c v ca s)
 unfolding firstClock
 first-adds w n c v ca s = chosen (Adds c) (isStepped w) (record { adds = refl; size = refl })
-    (chosen (Adds c) (pastCache w v n) (record { adds = refl; size = refl })
+    (chosen (Adds c) (withoutCache w v n) (record { adds = refl; size = refl })
     (chosen (Adds c) (turnsCacheOff w v) (writing-adds _ (firstDirty paperGeometry ca) 0 c ca s)
     (chosen (Adds c) (throughCache w v n && not (hits paperGeometry w n v ca)) (missing-adds (targetLine paperGeometry w v n) c ca s)
     (record { adds = refl; size = refl }))))

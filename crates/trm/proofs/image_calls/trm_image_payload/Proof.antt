@@ -5,7 +5,7 @@ use lib.ListN.{length}
 use lib.Dec.{eqb}
 use borrow.Author.Tests.{not-true, not-false}
 use Rattle.trm_image.proofs.Laws.Places.{payload-whole, gives-part}
-use Rattle.trm.proofs.Laws.Payload.{payload-refused, payload-told}
+use Rattle.trm.proofs.Laws.Payload.{payload-refused, payload-bytes}
 use borrow.Author.Needs.{needs}
 use Rattle.trm.proofs.image_calls.trm_image_payload.Statement.{statement}
 use Rattle.trm.proofs.image_calls.trm_image_payload.Tie as tie
@@ -37,7 +37,7 @@ returns-2 : tie.Need-returns-2
 returns-2 c =
     let z = ap (λ k. eqb k 0) (sym (c .before .before .before .payload-fault .ensures)) ∙ sym (c .before .accepted .ensures) ∙
     not-false _ (c .if1 .left) in
-    payload-told _ _ _ z (ap length (c .before .before .payload .ensures ∙ sym (gives-part _ _ z)))
+    payload-bytes _ _ _ z (ap length (c .before .before .payload .ensures ∙ sym (gives-part _ _ z)))
 
 pub trm-image-payload-spec : {M : Type 1} → statement M
 trm-image-payload-spec =

@@ -16,17 +16,17 @@ returns : tie.Need-returns
 unfolding waitOk
 returns c = rw (lt-leb _ _ (c .if1 .taken))
 
-past-cache-requires : tie.Need-past-cache-requires
-past-cache-requires c κs = search needs
+without-cache-requires : tie.Need-without-cache-requires
+without-cache-requires c κs = search needs
 
 returns-2 : tie.Need-returns-2
 unfolding waitOk
 returns-2 c =
     let start = c .before .before .before in
-    let past-cache = c .before .past-cache in
+    let without-cache = c .before .without-cache in
     let count = start .args .count in
     let most : ℕ = cond (isLoad (start .args .w)) 5 4 in
-    rw (← past-cache .ensures, not-true (past-cache .result) (c .if2 .taken), and-false (leb 1 count && leb count most))
+    rw (← without-cache .ensures, not-true (without-cache .result) (c .if2 .taken), and-false (leb 1 count && leb count most))
 
 cast-base-charge : tie.Need-cast-base-charge
 cast-base-charge c = search needs
@@ -37,9 +37,9 @@ base-charge-requires c κs = search needs
 add-uncached : tie.Need-add-uncached
 add-uncached c =
     let start = c .before .before .before .before in
-    let past-cache = c .before .before .past-cache in
-    let t = not-false (past-cache .result) (c .before .if2 .left) in
-    let h = uncached-few (start .args .w) _ _ (sym (past-cache .ensures) ∙ t) in
+    let without-cache = c .before .before .without-cache in
+    let t = not-false (without-cache .result) (c .before .if2 .left) in
+    let h = uncached-few (start .args .w) _ _ (sym (without-cache .ensures) ∙ t) in
     rw (c .base-charge .ensures) (omega (arith, h))
 
 returns-3 : tie.Need-returns-3
@@ -47,20 +47,20 @@ unfolding waitOk
 returns-3 c =
     let start = c .before .before .before .before in
     let if1 = c .before .before .before .if1 in
-    let past-cache = c .before .before .past-cache in
+    let without-cache = c .before .before .without-cache in
     let base-charge = c .base-charge in
     let count = start .args .count in
     let most : ℕ = cond (isLoad (start .args .w)) 5 4 in
-    let t = not-false (past-cache .result) (c .before .if2 .left) in
-    rw (le-leb _ _ (if1 .left), ← past-cache .ensures, t, and-true (leb count most), base-charge .ensures)
-    (below-one-more count _ most (uncached-charge (start .args .w) _ _ (sym (past-cache .ensures) ∙ t)))
+    let t = not-false (without-cache .result) (c .before .if2 .left) in
+    rw (le-leb _ _ (if1 .left), ← without-cache .ensures, t, and-true (leb count most), base-charge .ensures)
+    (below-one-more count _ most (uncached-charge (start .args .w) _ _ (sym (without-cache .ensures) ∙ t)))
 
 pub wait-ok-spec : {M : Type 1} → statement M
 wait-ok-spec =
     tie.close
     (tie.spec
     returns
-    past-cache-requires
+    without-cache-requires
     returns-2
     cast-base-charge
     base-charge-requires

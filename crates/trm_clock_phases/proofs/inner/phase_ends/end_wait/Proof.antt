@@ -9,7 +9,7 @@ use Rattle.trm_clock_execute.proofs.Laws.{execute-store}
 use Rattle.trm_clock_laws.proofs.Laws.Facts.{facts}
 use Rattle.trm_clock_laws.proofs.Laws.Flight.{waiting-is, wait-ends}
 use Rattle.trm_clock_laws.proofs.Laws.Worked.{ends-worked}
-use Rattle.trm_clock_laws.proofs.Laws.Words.{store-made, load-made, memory-at, load-if, store-if, past-cache, past-store}
+use Rattle.trm_clock_laws.proofs.Laws.Words.{store-made, load-made, memory-at, load-if, store-if, without-cache, without-cache-store}
 use borrow.Author.Needs.{needs}
 use Rattle.trm_clock_phases.proofs.inner.phase_ends.end_wait.Statement.{statement}
 use Rattle.trm_clock_phases.proofs.inner.phase_ends.end_wait.Tie as tie
@@ -59,9 +59,9 @@ returns c =
     c .before .before .before .before .before .if1 .taken in
     let is = is-of _ _ _ uncached (waiting-is _ _ _ _ _ f (g .1) .0) in
     ends-worked _ _ _ _ _ _ _ (wait-ends _ _ _ _ _ f (g .1) (g .2) .0) _
-    (store-made _ _ _ _ _ _ _ (store-if _ t) (is .memory) _ _ _ _ _ (sym (past-cache _ _ _ _ (is .through) (is .off)))
+    (store-made _ _ _ _ _ _ _ (store-if _ t) (is .memory) _ _ _ _ _ (sym (without-cache _ _ _ _ (is .through) (is .off)))
     (rw (
-      past-store _ _ _ _ (is .past) t,
+      without-cache-store _ _ _ _ (is .without) t,
       ← c .before .before .before .before .before .before .before .target-of .ensures,
       ← c .before .before .before .stored-word .ensures,
     ))
