@@ -2,6 +2,8 @@
 // Paper: "Where calls are turned down"; "The clock call takes the record and returns it".
 // `exported_calls`, `lent`, `codec`, `image_calls`, `exported_board`, `layout`: the exported functions; `exported_answers`: what they
 // return; `inner`: the clock behind the lent entry.
+#![tactic(auto)]
+
 pub mod codec;
 pub mod exported_answers;
 pub mod exported_board;

@@ -1,6 +1,8 @@
 // Writes the listing of an image to a file, piece by piece.
 // Paper: "reads an image .. with a store of 2,048 words, checks it whole, and runs it".
 // Each piece is written before the next is computed; a failed write ends the listing.
+#![tactic(auto)]
+
 ghost use Rattle.std.specs.Prelude.{◌≡◌, ◌≤◌, length};
 
 use trm_listing::inner::pieces;

@@ -1,6 +1,8 @@
 // Runs the cases of its standard input on the serial board, one per input line, and prints each with the library's answer.
 // Request A1: its refusals, devices, tick and line; document 01: "Where calls are turned down".
 // How an input line is read: case_input.rt and case_text.rt of trm_test_cases.
+#![tactic(auto)]
+
 mod board_cases;
 
 use trm_test_cases::inner::{case_input, script};

@@ -1,6 +1,8 @@
 // Prints the name and the listing of each image in data/ that an argument names.
 // Paper: "the others and the listing are executed and held against this paper"; the cases are made from it by tests/images.
 // An argument is a file name; the first missing one ends the program.
+#![tactic(auto)]
+
 fn main() {
     let mut i: usize = 1;
     while i < 1000 {

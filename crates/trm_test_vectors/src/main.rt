@@ -1,6 +1,8 @@
 // Runs the cases of its standard input, one per input line, and prints each with the library's answer.
 // Paper: "Bench cases", the edges of operations, conditions, addresses, words and fields beside them, and "Where calls are turned down".
 // How an input line is read: case_input.rt and case_text.rt of trm_test_cases.
+#![tactic(auto)]
+
 mod arithmetic;
 mod cases;
 mod machine_cases;

@@ -2,6 +2,7 @@
 // Paper: "The program `trmlist` reads an image from standard input with a store of 2,048 words, checks it whole, and runs it".
 // It reads up to one byte more than an image may have, so that a longer image is refused as too long. A program cannot set an exit
 // status: a failed read or write is reported on standard error, and a failed read prints no listing.
+#![tactic(auto)]
 
 // Whether the first n bytes are the whole input or more than an image may have: a read that fails is not the end of the input.
 fn is_read(n: usize) -> bool {
