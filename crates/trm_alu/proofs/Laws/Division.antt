@@ -4,11 +4,10 @@
 --   magnitude, -le, -plus, -minus      |B|                     rem_is, quot_is   the registers for A above 0
 --   registers-none, div-start, div-closed, div-step            both 0 for A not above 0; before, after k, one step more
 --   taken-lt                           how many bits t has
-use Rattle.std.proofs.Common.{◌≡◌, ℕ, ◌+◌, ◌-◌, ◌*◌, ◌/◌, ◌%◌, ◌^◌, ◌<◌, ◌≤◌, Bool, true, false, cond, not, ltb, nat_abs, sym, refl, ap, ◌∙◌, subst, ap₂, lt_of_le_of_lt, mod-lt, mul_assoc, mul_comm, add-mul, div-add-mod', div-le_self, arith, shr-shr, shr_lt, ltb-false, ltb-true, lt-ltb}
+use Rattle.std.proofs.Common.{◌≡◌, ℕ, ◌+◌, ◌-◌, ◌*◌, ◌/◌, ◌%◌, ◌^◌, ◌<◌, ◌≤◌, Bool, true, false, cond, ltb, nat_abs, sym, refl, ap, ◌∙◌, subst, ap₂, lt_of_le_of_lt, mod-lt, mul_assoc, mul_comm, add-mul, div-add-mod', div-le_self, arith, shr-shr, shr_lt, ltb-false, ltb-true, lt-ltb}
 use mathlib.Core.Bool.{and-eq-true_iff}
 use native.Mathlib.Nat.{zero-mod, zero-div}
 use lib.Arith.{digits_div, digits_mod}
-use borrow.Author.Tests.{not-true, not-false}
 use Rattle.trm_alu.specs.declared.inner.divide.Divider.{Divider}
 use Rattle.trm_alu.specs.Word.{signed}
 use Rattle.trm_alu.specs.Divide.{above0, taken, div_rem, div_quot, divider_at, div_trial, div_rest, div_step}
@@ -30,11 +29,11 @@ above0_true a e =
 -- ---- digits
 
 -- from the test in the code, which equals the one in the definition
-pub above0-no : (t : Bool) (a : ℕ) → t ≡ above0 a → not t ≡ true → above0 a ≡ false
-above0-no t a e n = sym e ∙ not-true t n
+pub above0-no : (t : Bool) (a : ℕ) → t ≡ above0 a → t ≡ false → above0 a ≡ false
+above0-no t a e n = sym e ∙ n
 
-pub above0-yes : (t : Bool) (a : ℕ) → t ≡ above0 a → not t ≡ false → (0 < a) × (a < 2 ^ 31)
-above0-yes t a e n = above0_true a (sym e ∙ not-false t n)
+pub above0-yes : (t : Bool) (a : ℕ) → t ≡ above0 a → t ≡ true → (0 < a) × (a < 2 ^ 31)
+above0-yes t a e n = above0_true a (sym e ∙ n)
 
 pub quotient_digits : (t q r a : ℕ) → t ≡ q * a + r → r < a → (t / a ≡ q) × (t % a ≡ r)
 quotient_digits t q r a e h = (ap (λ (x : ℕ). x / a) e ∙ digits_div q h, ap (λ (x : ℕ). x % a) e ∙ digits_mod q h)
