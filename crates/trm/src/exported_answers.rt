@@ -4,14 +4,14 @@
 use trm_run_machine::machine::Machine;
 
 #[repr(C)]
-#[derive(Drop)]
+#[derive(Clone, Copy)]
 pub struct ResetAnswer {
     pub machine: Machine,
     pub number: u32,
 }
 
 #[repr(C)]
-#[derive(Drop)]
+#[derive(Clone, Copy)]
 pub struct ClockAnswer {
     pub machine: Machine,
     pub number: u32,
@@ -22,7 +22,7 @@ pub struct ClockAnswer {
 
 // The same without the record, for the caller who lends it.
 #[repr(C)]
-#[derive(Drop)]
+#[derive(Clone, Copy)]
 pub struct LentAnswer {
     pub number: u32,
     pub byte: u8,
@@ -31,7 +31,7 @@ pub struct LentAnswer {
 }
 
 #[repr(C)]
-#[derive(Drop)]
+#[derive(Clone, Copy)]
 pub struct RunAnswer {
     pub machine: Machine,
     pub number: u32,
@@ -40,7 +40,7 @@ pub struct RunAnswer {
 }
 
 #[repr(C)]
-#[derive(Drop)]
+#[derive(Clone, Copy)]
 pub struct LookAnswer {
     pub number: u32,
     pub word: u32,
@@ -48,7 +48,7 @@ pub struct LookAnswer {
 
 // `found` is 1 if `clock` is a clock that writes the device; else both are 0.
 #[repr(C)]
-#[derive(Drop)]
+#[derive(Clone, Copy)]
 pub struct WatchAnswer {
     pub number: u32,
     pub found: u32,

@@ -8,14 +8,14 @@ use trm_board_calls::board_record::Board;
 use trm_call_refusals::inner::refusal_number;
 
 #[repr(C)]
-#[derive(Drop)]
+#[derive(Clone, Copy)]
 pub struct BoardResetAnswer {
     pub board: Board,
     pub number: u32,
 }
 
 #[repr(C)]
-#[derive(Drop)]
+#[derive(Clone, Copy)]
 pub struct BoardClockAnswer {
     pub board: Board,
     pub number: u32,
@@ -26,7 +26,7 @@ pub struct BoardClockAnswer {
 }
 
 #[repr(C)]
-#[derive(Drop)]
+#[derive(Clone, Copy)]
 pub struct BoardRunAnswer {
     pub board: Board,
     pub number: u32,

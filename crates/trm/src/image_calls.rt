@@ -8,7 +8,7 @@ use trm_image::reader;
 
 // `at` is the offset where the record at fault begins; 0 if accepted, too long or empty.
 #[repr(C)]
-#[derive(Drop)]
+#[derive(Clone, Copy)]
 pub struct ImageAnswer {
     pub number: u32,
     pub at: u64,
@@ -29,7 +29,7 @@ pub extern "C" fn trm_image_check(image: &[u8], words: usize) -> ImageAnswer
 
 // A part of the image: where it begins, and how many bytes it has; both 0 if refused.
 #[repr(C)]
-#[derive(Drop)]
+#[derive(Clone, Copy)]
 pub struct PartAnswer {
     pub number: u32,
     pub start: u64,

@@ -3,7 +3,7 @@
 
 // The serial part; the tick, which is interrupt 0; the ten lamps.
 #[repr(C)]
-#[derive(Drop)]
+#[derive(Clone, Copy)]
 pub struct Devices {
     pub serial: trm_serial::record::Serial,
     pub tick: u64,

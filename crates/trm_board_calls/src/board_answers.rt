@@ -5,14 +5,14 @@ use crate::board_record::Board;
 use trm_call_refusals::refusal::Refusal;
 
 // A reset: the board to start from; if refused, one that every call refuses.
-#[derive(Drop)]
+#[derive(Clone, Copy)]
 pub struct BoardReset {
     pub board: Board,
     pub refused: Refusal,
 }
 
 // A clock: the level sent in it, and the core's answer. `finished` is 1 if an instruction ended.
-#[derive(Drop)]
+#[derive(Clone, Copy)]
 pub struct BoardClock {
     pub board: Board,
     pub refused: Refusal,
@@ -23,7 +23,7 @@ pub struct BoardClock {
 }
 
 // A run: the clocks used and the instructions finished.
-#[derive(Drop)]
+#[derive(Clone, Copy)]
 pub struct BoardRun {
     pub board: Board,
     pub refused: Refusal,

@@ -2,7 +2,7 @@
 // Request A1: "A board field outside its range is refused with 5".
 
 #[repr(C)]
-#[derive(Drop)]
+#[derive(Clone, Copy)]
 pub struct Board {
     pub machine: trm_run_machine::machine::Machine,
     pub devices: trm_board::record::Devices,

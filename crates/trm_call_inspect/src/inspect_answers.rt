@@ -5,14 +5,14 @@ use trm_call_refusals::refusal::Refusal;
 use trm_core::sighting::Sighting;
 
 // A look: the word, 0 if refused.
-#[derive(Drop)]
+#[derive(Clone, Copy)]
 pub struct Look {
     pub refused: Refusal,
     pub word: u32,
 }
 
 // A watch: a clock or none; none if refused.
-#[derive(Drop)]
+#[derive(Clone, Copy)]
 pub struct Watch {
     pub refused: Refusal,
     pub sighting: Sighting,

@@ -5,14 +5,14 @@ use trm_call_refusals::refusal::Refusal;
 use trm_run_machine::machine::Machine;
 
 // A reset: the record to start from; if refused, one that every call refuses.
-#[derive(Drop)]
+#[derive(Clone, Copy)]
 pub struct Reset {
     pub machine: Machine,
     pub refused: Refusal,
 }
 
 // A run: the clocks used and the instructions finished.
-#[derive(Drop)]
+#[derive(Clone, Copy)]
 pub struct Run {
     pub machine: Machine,
     pub refused: Refusal,

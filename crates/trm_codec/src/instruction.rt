@@ -3,7 +3,7 @@
 // Every field has a type wider than its width in the word, so encode checks each.
 
 // The operations 0-10, in the order of their numbers.
-#[derive(Drop)]
+#[derive(Clone, Copy)]
 pub enum Operation {
     Mov,
     Not,
@@ -19,14 +19,14 @@ pub enum Operation {
 }
 
 // The operand A of operations 0-10: R.s, or the literal without sign.
-#[derive(Drop)]
+#[derive(Clone, Copy)]
 pub enum Operand {
     Register(u32),
     Literal(u32),
 }
 
 // Each field has the bits of the word; the ten bits of a branch's offset are two's complement.
-#[derive(Drop)]
+#[derive(Clone, Copy)]
 pub enum Instruction {
     Arithmetic {
         operation: Operation,
@@ -69,14 +69,14 @@ pub enum Instruction {
 }
 
 // `Refused` has the number 3.
-#[derive(Drop)]
+#[derive(Clone, Copy)]
 pub enum Decoded {
     Instruction(Instruction),
     Refused,
 }
 
 // `Refused` has the number 10.
-#[derive(Drop)]
+#[derive(Clone, Copy)]
 pub enum Encoded {
     Word(u32),
     Refused,

@@ -8,14 +8,14 @@ use crate::plain_fields;
 use crate::plain_fields::Fields;
 
 #[repr(C)]
-#[derive(Drop)]
+#[derive(Clone, Copy)]
 pub struct PlainDecoded {
     pub fields: Fields,
     pub number: u32,
 }
 
 #[repr(C)]
-#[derive(Drop)]
+#[derive(Clone, Copy)]
 pub struct PlainEncoded {
     pub number: u32,
     pub word: u32,

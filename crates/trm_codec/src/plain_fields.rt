@@ -10,7 +10,7 @@ use crate::instruction::{Instruction, Operand};
 // Forms: 0 an operation 0-10 on a register, 1 on a literal, 2 MOV from H, 3 a new status, 4 a jump, 5 a jump that links, 6 RTI, 7 LD,
 // 8 ST, 9 a branch, 10 a call. `value` is the literal, the status or the offset, with the bits of the word.
 #[repr(C)]
-#[derive(Drop)]
+#[derive(Clone, Copy)]
 pub struct Fields {
     pub form: u32,
     pub operation: u32,

@@ -4,7 +4,7 @@
 
 // The counts: clocks, held clocks, finished refills and write-backs.
 #[repr(C)]
-#[derive(Drop)]
+#[derive(Clone, Copy)]
 pub struct Counts {
     pub clocks: u64,
     pub held: u64,
@@ -14,7 +14,7 @@ pub struct Counts {
 
 // What is in flight: phase and count, and the multiplier's and divider's registers.
 #[repr(C)]
-#[derive(Drop)]
+#[derive(Clone, Copy)]
 pub struct Running {
     pub phase: u64,
     pub count: u64,
@@ -26,7 +26,7 @@ pub struct Running {
 // All fields that are not arrays. `size` is the store's length at reset; H uses the full width of its type. These two u32 share a 64-bit
 // word because they seldom change; next to a scalar that changes often, a u32 would be packed and unpacked in every clock.
 #[repr(C)]
-#[derive(Drop)]
+#[derive(Clone, Copy)]
 pub struct Scalars {
     pub status: u64,
     pub pc: u64,

@@ -5,7 +5,7 @@ use crate::machine::Machine;
 use trm_call_refusals::refusal::Refusal;
 
 // The record, the refusal, the byte and word that a run would write for this clock; `finished` is 1 if an instruction ended.
-#[derive(Drop)]
+#[derive(Clone, Copy)]
 pub struct Clock {
     pub machine: Machine,
     pub refused: Refusal,

@@ -4,7 +4,7 @@
 
 // Bank 0 and bank 1 of the registers; for each line full, dirty (0 or 1) and block; the lines' words, eight to a line.
 #[repr(C)]
-#[derive(Drop)]
+#[derive(Clone, Copy)]
 pub struct Machine {
     pub scalars: trm_core::record::Scalars,
     pub regs: [u32; 16],

@@ -5,7 +5,7 @@
 // Receiver: `passed`, clocks of its frame gone by, 0 if none has begun; `bits`, its last eight data samples, the latest highest (a shift
 // register); `byte`, the last byte received; `ready`, the received bit.
 #[repr(C)]
-#[derive(Drop)]
+#[derive(Clone, Copy)]
 pub struct Serial {
     pub left: u64,
     pub sent: u64,

@@ -11,7 +11,7 @@ use trm_core::record::Scalars;
 use trm_run_machine::inner::one_clock;
 
 // The scalars after the clock, and its answer.
-#[derive(Drop)]
+#[derive(Clone, Copy)]
 pub struct Placed {
     pub scalars: Scalars,
     pub number: u32,

@@ -6,14 +6,14 @@ ghost use Rattle.trm_alu.specs.Word.{signed};
 ghost use Rattle.trm_alu.specs.Divide.{above0, div_rem, div_quot, divider_at, div_step, divided};
 
 // The remainder and the quotient register.
-#[derive(Drop)]
+#[derive(Clone, Copy)]
 pub struct Divider {
     pub rem: u64,
     pub quot: u64,
 }
 
 // R.d and H of DIV.
-#[derive(Drop)]
+#[derive(Clone, Copy)]
 pub struct Divided {
     pub quotient: u32,
     pub remainder: u32,

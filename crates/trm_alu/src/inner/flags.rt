@@ -4,7 +4,7 @@
 ghost use Rattle.std.specs.Prelude.{◌≡◌};
 ghost use Rattle.trm_alu.specs.Flags.{sign_flag, zero_flag, carry_after, overflow_after, flags_after};
 
-#[derive(Drop)]
+#[derive(Clone, Copy)]
 pub struct Flags {
     pub n: u64,
     pub z: u64,

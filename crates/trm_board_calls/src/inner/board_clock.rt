@@ -18,7 +18,7 @@ use trm_run_machine::inner::one_clock;
 use trm_serial::inner::transmitter;
 
 // The core's scalars and the devices after the clock, the level sent in it, and the core's answer.
-#[derive(Drop)]
+#[derive(Clone, Copy)]
 pub struct Stepped {
     pub scalars: Scalars,
     pub devices: Devices,

@@ -15,7 +15,7 @@ use trm_core::record::Scalars;
 use trm_run_machine::inner::quiet_clocks;
 
 // The core's scalars and the devices after the clocks done, their number, and the instructions finished.
-#[derive(Drop)]
+#[derive(Clone, Copy)]
 pub struct Gone {
     pub scalars: Scalars,
     pub devices: Devices,

@@ -6,7 +6,7 @@ ghost use Rattle.trm_reference.specs.Geometry.{paper_geometry};
 ghost use Rattle.trm_cache.specs.Cache.{cache, count_dirty, first_dirty, all_emptied};
 
 // The number of dirty lines, and the lowest of them, 0 if there is none.
-#[derive(Drop)]
+#[derive(Clone, Copy)]
 pub struct Dirty {
     pub count: u64,
     pub first: usize,

@@ -16,7 +16,7 @@ use trm_clock_scalars::inner::scalars;
 use trm_core::record::{Running, Scalars};
 
 // The next `running`; `refilled` and `written` are 1 if this clock finished a refill, a write-back.
-#[derive(Drop)]
+#[derive(Clone, Copy)]
 pub struct Motion {
     pub running: Running,
     pub refilled: u64,

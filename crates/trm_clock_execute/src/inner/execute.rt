@@ -15,7 +15,7 @@ ghost use Rattle.trm_core.specs.Rule.{widths_ok, counts_ok};
 use trm_core::record::{Running, Scalars};
 
 // R.d and H after MUL and DIV, 8 and 9.
-#[derive(Drop)]
+#[derive(Clone, Copy)]
 struct Outcome {
     pub word: u32,
     pub high: u32,

@@ -9,7 +9,7 @@ use trm_clock_scalars::inner::scalars;
 use trm_core::record::{Running, Scalars};
 
 // `finished` is 1 if an instruction ended in this clock.
-#[derive(Drop)]
+#[derive(Clone, Copy)]
 pub struct Clocked {
     pub scalars: Scalars,
     pub byte: u8,

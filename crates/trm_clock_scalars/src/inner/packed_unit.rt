@@ -12,7 +12,7 @@ ghost use Rattle.trm_clock_scalars.specs.Unit.{Packs, in_flight};
 use trm_core::record::Running;
 
 // The packed registers and the number of steps taken.
-#[derive(Drop)]
+#[derive(Clone, Copy)]
 pub struct Unit {
     pub value: u64,
     pub count: u64,

@@ -11,7 +11,7 @@ use trm_list_text::inner::row_text;
 use trm_list_text::inner::row_text::Shown;
 
 // The scalars; the clocks left of the run; the unheld clocks of the word in flight so far; how far the buffer is filled.
-#[derive(Drop)]
+#[derive(Clone, Copy)]
 pub struct Listed {
     pub scalars: Scalars,
     pub left: usize,

@@ -21,7 +21,7 @@ fn put_text(buf: &mut [u8], at: usize, text: &[u8]) -> usize
 }
 
 // What a row shows as its word: the executed word, or the interrupt of line 0 or 1.
-#[derive(Drop)]
+#[derive(Clone, Copy)]
 pub enum Shown {
     Word(u32),
     Irq0,

@@ -8,7 +8,7 @@ use crate::inner::runs::Place;
 use trm_list_text::inner::row_text;
 
 // How far the buffer is filled, and whether the listing is over.
-#[derive(Drop)]
+#[derive(Clone, Copy)]
 pub struct Ended {
     pub len: usize,
     pub over: bool,

@@ -16,7 +16,7 @@ use trm_run_machine::machine::Machine;
 
 // The machine; the number of its program's words; where the next record begins; of the current run the clocks left, line byte and input
 // word; the unheld clocks of the word in flight; how far the buffer is filled, and whether the listing is over.
-#[derive(Drop)]
+#[derive(Clone, Copy)]
 pub struct Listing {
     pub machine: Machine,
     pub words: usize,

@@ -16,7 +16,7 @@ use trm_list_rows::inner::listed::Listed;
 use trm_list_rows::inner::row_clocks;
 
 // The place of a listing in an image: within a run, and where the record after it begins.
-#[derive(Drop)]
+#[derive(Clone, Copy)]
 pub struct Place {
     pub listed: Listed,
     pub at: usize,

@@ -24,7 +24,7 @@ use trm_clock_scalars::inner::{interrupt, scalars, steps};
 use trm_run_phases::inner::going::Going;
 
 // The record after a run, and the number of instructions finished.
-#[derive(Drop)]
+#[derive(Clone, Copy)]
 pub struct Finished {
     pub machine: Machine,
     pub finished: u64,

@@ -10,7 +10,7 @@ use trm_clock_scalars::inner::interrupt;
 use trm_core::record::Scalars;
 
 // The scalars, the clocks done, the instructions finished.
-#[derive(Drop)]
+#[derive(Clone, Copy)]
 pub struct Going {
     pub scalars: Scalars,
     pub at: usize,

@@ -21,7 +21,7 @@ use trm_clock_scalars::inner::{interrupt, packed_unit};
 use trm_core::record::{Running, Scalars};
 
 // The registers in flight, and the clocks held meanwhile.
-#[derive(Drop)]
+#[derive(Clone, Copy)]
 pub struct Serial {
     pub running: Running,
     pub held: u64,

@@ -11,7 +11,7 @@ use trm_run_machine::clock_answer::Clock;
 use trm_run_machine::machine::Machine;
 
 // How many words of the program and of the store are lent.
-#[derive(Drop)]
+#[derive(Clone, Copy)]
 pub struct Lent {
     pub program: u32,
     pub store: u32,

@@ -5,7 +5,7 @@ ghost use Rattle.std.specs.Prelude.{◌≡◌, true};
 ghost use Rattle.trm_word.specs.Address.{base_of, effective_address, place_of, store_length_ok};
 
 // What an address names.
-#[derive(Drop)]
+#[derive(Clone, Copy)]
 pub enum Place {
     Device(u64),
     Memory(u64),

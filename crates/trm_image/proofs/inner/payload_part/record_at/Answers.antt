@@ -1,0 +1,24 @@
+use mathlib.Core.Path.{refl, sym, ◌∙◌}
+use Prim.Native.Nat.{◌-◌}
+use native.Mathlib.Omega.{arith}
+use Rattle.trm_image.specs.Records.{records_of, record_at}
+use Rattle.trm_image.proofs.Laws.Places.{found_here, found-later, found_none}
+use Rattle.trm_image.proofs.inner.payload_part.record_at.Goals as goal
+
+pub loop-place-init : goal.loop-place-init
+unfolding record_at records_of
+loop-place-init c = refl
+
+pub returns-then-at-place : goal.returns-then-at-place
+returns-then-at-place c = sym (found_here _ _ _ c.loop-place-test.true c.if-at-place.true) ∙ c.loop-place.invariant
+
+pub loop-place-smaller : goal.loop-place-smaller
+loop-place-smaller c = omega (arith, c.loop-place-test.true)
+
+pub loop-place-preserved : goal.loop-place-preserved
+loop-place-preserved c =
+    rw c.word_at.ensures (sym (found-later _ _ _ c.loop-place-test.true c.if-at-place.false)
+    ∙ c.loop-place.invariant)
+
+pub returns : goal.returns
+returns c = sym (found_none _ _ _ c.loop-place-test.false) ∙ c.loop-place.invariant
