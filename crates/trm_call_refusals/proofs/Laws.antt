@@ -114,14 +114,14 @@ code-zero {number} {code} {t} e a b = sym e ∙ eqb-true number 0 (sym a ∙ b)
 
 -- a call refused by rows 3, 4 or 5 has that row's number
 pub kept-number : (p : List ℕ) (m : Machine) (s : List ℕ) (rest : ℕ) {number : ℕ} {t : Bool} → number ≡ record_rows paper_geometry p m s 0
-    → t ≡ eqb number 0 → not t ≡ true → number ≡ record_rows paper_geometry p m s rest
+    → t ≡ eqb number 0 → t ≡ false → number ≡ record_rows paper_geometry p m s rest
 kept-number p m s rest {number} {t} e a b =
-    e ∙ rows-kept paper_geometry p m s rest (test_at (sym e) 0 ∙ (sym a ∙ not-true t b))
+    e ∙ rows-kept paper_geometry p m s rest (test_at (sym e) 0 ∙ (sym a ∙ b))
 
 -- otherwise these rows are passed
 pub passed-rows : (p : List ℕ) (m : Machine) (s : List ℕ) {number : ℕ} {t : Bool} → number ≡ record_rows paper_geometry p m s 0
-    → t ≡ eqb number 0 → not t ≡ false → Passed paper_geometry p m s
-passed-rows p m s {number} {t} e a b = (rows-passed paper_geometry p m s 0 (code-zero e a (not-false t b))).0
+    → t ≡ eqb number 0 → t ≡ true → Passed paper_geometry p m s
+passed-rows p m s {number} {t} e a b = (rows-passed paper_geometry p m s 0 (code-zero e a b)).0
 
 -- a reset that is not refused has a store below 2^32 words
 pub reset-short : (s : List ℕ) → eqb (reset_refusal s) 0 ≡ true → length s < 2 ^ 32

@@ -70,12 +70,12 @@ module _ (p : List ℕ) (x : Board Lent) where
       go true true true true q = clash (sym q)
 
   -- of a number that a function returned, and its test
-  pub number-kept : (rest : ℕ) {number : ℕ} {t : Bool} → number ≡ board_rows p x 0 → t ≡ eqb number 0 → not t ≡ true
+  pub number-kept : (rest : ℕ) {number : ℕ} {t : Bool} → number ≡ board_rows p x 0 → t ≡ eqb number 0 → t ≡ false
       → number ≡ board_rows p x rest
-  number-kept rest {number} {t} e q n = e ∙ board-kept rest (sym (ap (λ k. eqb k 0) e) ∙ sym q ∙ not-true t n)
+  number-kept rest {number} {t} e q n = e ∙ board-kept rest (sym (ap (λ k. eqb k 0) e) ∙ sym q ∙ n)
 
-  pub number-through : {number : ℕ} {t : Bool} → number ≡ board_rows p x 0 → t ≡ eqb number 0 → not t ≡ false → Through p x
-  number-through {number} {t} e q n = (board-through 0 (sym e ∙ eqb-true number 0 (sym q ∙ not-false t n))).0
+  pub number-through : {number : ℕ} {t : Bool} → number ≡ board_rows p x 0 → t ≡ eqb number 0 → t ≡ true → Through p x
+  number-through {number} {t} e q n = (board-through 0 (sym e ∙ eqb-true number 0 (sym q ∙ n))).0
 
   ready-through : (more : ℕ) → Through p x → Shaped paper_geometry x.core.machine
       → x.core.machine.scalars.counts.clocks + more ≤ 4294967295 → Ready p x more

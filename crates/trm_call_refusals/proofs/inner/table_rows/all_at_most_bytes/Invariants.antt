@@ -1,0 +1,14 @@
+-- Invariant: the largest byte so far and the bytes left are within the limit exactly if all are. Measure: the bytes left.
+use mathlib.Core.Path.{◌≡◌}
+use mathlib.Core.Bool.{◌&&◌}
+use lib.ListN.{length, drop}
+use lib.Dec.{leb}
+use Prim.Native.Nat.{◌-◌}
+use Rattle.trm_core.specs.Refusals.{all_at_most}
+use Rattle.trm_call_refusals.proofs.inner.table_rows.all_at_most_bytes.Given as goal
+
+abbrev pub invariant-loop-i : goal.invariant-loop-i
+invariant-loop-i l = (leb l.most l.limit && all_at_most l.limit (drop l.i l.list)) ≡ all_at_most l.limit l.list
+
+abbrev pub decreases-loop-i : goal.decreases-loop-i
+decreases-loop-i l = length l.list - l.i
