@@ -32,6 +32,7 @@ fn operand_of(word: u32) -> Operand
 }
 
 // The instruction of a word whose operation is 0-10.
+#[tactic(auto, unfolding(crate::specs::Decode::arithmetic_of))]
 fn arithmetic(word: u32) -> Instruction
     ensures { result ≡ arithmetic_of word }
 {
@@ -47,6 +48,7 @@ fn arithmetic(word: u32) -> Instruction
 }
 
 // The instruction of a word whose operation is 11.
+#[tactic(auto, unfolding(crate::specs::Decode::control_of))]
 fn control(word: u32) -> Instruction
     ensures { result ≡ control_of word }
 {
@@ -66,6 +68,7 @@ fn control(word: u32) -> Instruction
 }
 
 // The instruction that a word encodes, or the refusal.
+#[tactic(auto, using(crate::proofs::Laws::Numbers::decodes), unfolding(crate::specs::Decode::decode_of, crate::specs::Decode::instruction_of))]
 pub fn decode(word: u32) -> Decoded
     ensures { Decodes word result }
 {

@@ -8,6 +8,7 @@ ghost use Rattle.trm_codec.specs.Promises.{Encodes};
 use crate::instruction::{Encoded, Instruction, Operand, Operation};
 
 // The word of an operation 0-10.
+#[tactic(auto, unfolding(crate::specs::Encode::encode_of))]
 fn arithmetic_word(operation: Operation, d: u32, operand: Operand) -> Encoded
     ensures { result ≡ encode_of (Instruction.Arithmetic operation d operand) }
 {
@@ -61,6 +62,7 @@ fn field_word(form: u32, field: u32, limit: u32) -> Encoded
 }
 
 // The word of MOV from H.
+#[tactic(auto, unfolding(crate::specs::Encode::encode_of))]
 fn move_high_word(d: u32) -> Encoded
     ensures { result ≡ encode_of (Instruction.MoveHigh d) }
 {
@@ -71,6 +73,7 @@ fn move_high_word(d: u32) -> Encoded
 }
 
 // The word of a jump that puts PC + 1 in R.d.
+#[tactic(auto, unfolding(crate::specs::Encode::encode_of))]
 fn link_word(d: u32, s: u32) -> Encoded
     ensures { result ≡ encode_of (Instruction.JumpAndLink d s) }
 {
@@ -84,6 +87,7 @@ fn link_word(d: u32, s: u32) -> Encoded
 }
 
 // The word of a branch.
+#[tactic(auto, unfolding(crate::specs::Encode::encode_of))]
 fn branch_word(condition: u32, offset: u32) -> Encoded
     ensures { result ≡ encode_of (Instruction.Branch condition offset) }
 {
@@ -97,6 +101,7 @@ fn branch_word(condition: u32, offset: u32) -> Encoded
 }
 
 // The word of an instruction, unused bits zero, or the refusal.
+#[tactic(auto, using(crate::proofs::Laws::Numbers::encodes), unfolding(crate::specs::Encode::encode_of))]
 pub fn encode(instruction: Instruction) -> Encoded
     ensures { Encodes instruction result }
 {

@@ -1,29 +1,19 @@
--- Laws of instructions as plain numbers: the instruction of a form, and what decode and encode give.
--- By the number of the form in the list of forms, and by the one test of decode.
+-- Laws of instructions as plain numbers: what decode and encode give.
+-- By the one test of decode.
 use mathlib.Core.Path.{◌≡◌, sym, ap, ◌∙◌}
 use mathlib.Core.Bool.{Bool, true, false, cond, ◌&&◌}
-use Prim.Native.Nat.{ℕ, ◌≤◌}
+use Prim.Native.Nat.{ℕ}
 use lib.Dec.{ltb}
-use lib.ListN.{get_or, get_or-eq_default}
 use Rattle.trm_codec.specs.declared.instruction.Instruction.{Instruction}
-use Rattle.trm_codec.specs.declared.instruction.Instruction.TheVariants.{Call}
 use Rattle.trm_codec.specs.declared.instruction.Decoded.{Decoded}
 use Rattle.trm_codec.specs.declared.instruction.Decoded.TheVariants as D
 use Rattle.trm_codec.specs.Decode.{instruction_of, decode_of}
 use Rattle.trm_codec.specs.Encode.{fits, placed}
-use Rattle.trm_codec.specs.Refusals.{word_refusal, instruction_refusal}
+use Rattle.trm_codec.specs.Refusals.{word_refusal}
 use Rattle.trm_codec.specs.declared.plain_fields.Fields.{Fields}
-use Rattle.trm_codec.specs.Fields.{plain_fields, fields_of, forms, instruction_at, same_fields, fields_fit}
+use Rattle.trm_codec.specs.Fields.{plain_fields, fields_of, instruction_at, same_fields, fields_fit}
 use Rattle.trm_codec.specs.Plain.{fields_given, fields_refusal, word_given}
 use Rattle.trm_codec.specs.Promises.{DecodesPlain, EncodesPlain}
-
--- the instruction of a form whose number is known
-pub at-form : (f : Fields) {k : ℕ} → f.form ≡ k → get_or (forms f) k (Call f.value) ≡ instruction_at f
-at-form f e = sym (ap (λ k. get_or (forms f) k (Call f.value)) e)
-
--- a form of 10 or more is a call
-pub past-forms : (f : Fields) → 10 ≤ f.form → Call f.value ≡ instruction_at f
-past-forms f h = sym (get_or-eq_default (forms f) (Call f.value) h)
 
 -- the instruction of an answer, and j if it was refused
 held : Instruction → Decoded → Instruction

@@ -1,10 +1,9 @@
 -- Decode and encode on plain numbers are inverse.
 -- Fields that fit are those of their instruction, and conversely; the rest follows from the inverses of decode and encode.
-use mathlib.Core.Path.{◌≡◌, refl, sym, ap, ◌∙◌, subst}
-use mathlib.Core.Bool.{Bool, true, false, cond, ◌&&◌, and-eq-true_iff}
-use Prim.Native.Nat.{ℕ, ◌^◌, ◌<◌}
+use mathlib.Core.Path.{◌≡◌, refl, sym, ap, ◌∙◌}
+use mathlib.Core.Bool.{Bool, true, false, cond, and-eq-true_iff}
+use Prim.Native.Nat.{ℕ}
 use native.Mathlib.Omega.{arith}
-use lib.Dec.{eqb}
 use borrow.Author.Tests.{eqb-true, eq-eqb}
 use Rattle.trm_codec.specs.declared.plain_fields.Fields.{Fields}
 use Rattle.trm_codec.specs.declared.instruction.Operand.TheVariants.{Register, Literal}
@@ -13,14 +12,13 @@ use Rattle.trm_codec.specs.declared.instruction.Instruction.TheVariants.{Arithme
 use Rattle.trm_codec.specs.declared.instruction.Instruction.TheVariants.{ReturnFromInterrupt, Load, Store, Branch, Call}
 use Rattle.trm_codec.specs.declared.instruction.Decoded.TheVariants as D
 use Rattle.trm_codec.specs.declared.instruction.Encoded.TheVariants as E
-use Rattle.trm_codec.specs.Operations.{number_of, operation_at}
-use Rattle.trm_codec.specs.Decode.{instruction_of, decode_of}
+use Rattle.trm_codec.specs.Decode.{decode_of}
 use Rattle.trm_codec.specs.Encode.{fits, placed, encoded_as, encode_of}
 use Rattle.trm_codec.specs.Refusals.{decode_number, word_refusal}
 use Rattle.trm_codec.specs.Unused.{unused_zero}
 use Rattle.trm_codec.specs.Fields.{fields_of, instruction_at, same_fields, fields_fit}
 use Rattle.trm_codec.specs.Plain.{fields_given, fields_refusal, word_given}
-use Rattle.trm_codec.specs.Claims.{Recodes, PlainDecode, PlainEncode}
+use Rattle.trm_codec.specs.Claims.{PlainDecode, PlainEncode}
 use Rattle.trm_codec.proofs.Laws.Operations.{at-number}
 use Rattle.trm_codec.proofs.Laws.Numbers.{decode-number}
 use Rattle.trm_codec.proofs.Laws.Fields.{decoded-is}

@@ -4,121 +4,15 @@ use Prim.Native.Nat.{ℕ, zero, suc, ◌+◌, ◌-◌, ◌/◌, ◌%◌, ◌≤�
 use mathlib.Core.Path.{◌≡◌, refl, sym, ap, ◌∙◌, subst}
 use mathlib.Core.List.{List, [], ◌∷◌, ◌++◌, append-nil, append_assoc}
 use native.Mathlib.Omega.{arith}
-use borrow.Author.Tests.{lt-ltb, le-ltb}
 use lib.ListN.{length, set, take, drop, length-set, length-append, take-append-drop}
 use lib.Seq.{slice, slice_empty, slice-cons, get_or-set_same, drop-set-lt, take-set-lt, take-set-le, take-take}
-use Rattle.trm_list_text.specs.Numbers.{glyph, digits, places}
+use Rattle.trm_list_text.specs.Numbers.{glyph, digits}
 use Rattle.trm_list_text.specs.Wrote.{Wrote}
 
 pub digits_long : (b k n : ℕ) → length (digits b k n) ≡ k
 unfolding digits
 digits_long b zero n = refl
 digits_long b (suc k) n = length-append (digits b k (n / b)) (glyph (n % b) ∷ []) ∙ ap (λ l. l + 1) (digits_long b k (n / b)) ∙ omega arith
-
--- the code of a digit below 10 is that of `0` plus the digit
-pub figure_is : (d : ℕ) → d < 10 → 48 + d ≡ glyph d
-figure_is zero h = refl
-figure_is (suc zero) h = refl
-figure_is (suc (suc zero)) h = refl
-figure_is (suc (suc (suc zero))) h = refl
-figure_is (suc (suc (suc (suc zero)))) h = refl
-figure_is (suc (suc (suc (suc (suc zero))))) h = refl
-figure_is (suc (suc (suc (suc (suc (suc zero)))))) h = refl
-figure_is (suc (suc (suc (suc (suc (suc (suc zero))))))) h = refl
-figure_is (suc (suc (suc (suc (suc (suc (suc (suc zero)))))))) h = refl
-figure_is (suc (suc (suc (suc (suc (suc (suc (suc (suc zero))))))))) h = refl
-figure_is (suc (suc (suc (suc (suc (suc (suc (suc (suc (suc n)))))))))) h = absurd (omega arith)
-
--- how many digits a number between two powers of ten has
-pub places_1 : (n : ℕ) → n < 10 → 1 ≡ places n
-unfolding places
-places_1 n hi = rw (lt-ltb n 10 hi)
-
-pub places_2 : (n : ℕ) → 10 ≤ n → n < 100 → 2 ≡ places n
-unfolding places
-places_2 n lo hi = rw (le-ltb n 10 lo, lt-ltb n 100 hi)
-
-pub places_3 : (n : ℕ) → 100 ≤ n → n < 1000 → 3 ≡ places n
-unfolding places
-places_3 n lo hi = rw (le-ltb n 10 (omega arith), le-ltb n 100 lo, lt-ltb n 1000 hi)
-
-pub places_4 : (n : ℕ) → 1000 ≤ n → n < 10000 → 4 ≡ places n
-unfolding places
-places_4 n lo hi = rw (le-ltb n 10 (omega arith), le-ltb n 100 (omega arith), le-ltb n 1000 lo, lt-ltb n 10000 hi)
-
-pub places_5 : (n : ℕ) → 10000 ≤ n → n < 100000 → 5 ≡ places n
-unfolding places
-places_5 n lo hi = rw (
-  le-ltb n 10 (omega arith),
-  le-ltb n 100 (omega arith),
-  le-ltb n 1000 (omega arith),
-  le-ltb n 10000 lo,
-  lt-ltb n 100000 hi,
-)
-
-pub places_6 : (n : ℕ) → 100000 ≤ n → n < 1000000 → 6 ≡ places n
-unfolding places
-places_6 n lo hi = rw (
-  le-ltb n 10 (omega arith),
-  le-ltb n 100 (omega arith),
-  le-ltb n 1000 (omega arith),
-  le-ltb n 10000 (omega arith),
-  le-ltb n 100000 lo,
-  lt-ltb n 1000000 hi,
-)
-
-pub places_7 : (n : ℕ) → 1000000 ≤ n → n < 10000000 → 7 ≡ places n
-unfolding places
-places_7 n lo hi = rw (
-  le-ltb n 10 (omega arith),
-  le-ltb n 100 (omega arith),
-  le-ltb n 1000 (omega arith),
-  le-ltb n 10000 (omega arith),
-  le-ltb n 100000 (omega arith),
-  le-ltb n 1000000 lo,
-  lt-ltb n 10000000 hi,
-)
-
-pub places_8 : (n : ℕ) → 10000000 ≤ n → n < 100000000 → 8 ≡ places n
-unfolding places
-places_8 n lo hi = rw (
-  le-ltb n 10 (omega arith),
-  le-ltb n 100 (omega arith),
-  le-ltb n 1000 (omega arith),
-  le-ltb n 10000 (omega arith),
-  le-ltb n 100000 (omega arith),
-  le-ltb n 1000000 (omega arith),
-  le-ltb n 10000000 lo,
-  lt-ltb n 100000000 hi,
-)
-
-pub places_9 : (n : ℕ) → 100000000 ≤ n → n < 1000000000 → 9 ≡ places n
-unfolding places
-places_9 n lo hi = rw (
-  le-ltb n 10 (omega arith),
-  le-ltb n 100 (omega arith),
-  le-ltb n 1000 (omega arith),
-  le-ltb n 10000 (omega arith),
-  le-ltb n 100000 (omega arith),
-  le-ltb n 1000000 (omega arith),
-  le-ltb n 10000000 (omega arith),
-  le-ltb n 100000000 lo,
-  lt-ltb n 1000000000 hi,
-)
-
-pub places_10 : (n : ℕ) → 1000000000 ≤ n → 10 ≡ places n
-unfolding places
-places_10 n lo = rw (
-  le-ltb n 10 (omega arith),
-  le-ltb n 100 (omega arith),
-  le-ltb n 1000 (omega arith),
-  le-ltb n 10000 (omega arith),
-  le-ltb n 100000 (omega arith),
-  le-ltb n 1000000 (omega arith),
-  le-ltb n 10000000 (omega arith),
-  le-ltb n 100000000 (omega arith),
-  le-ltb n 1000000000 lo,
-)
 
 -- the buffer was `old`; i digits of `rest` are still to be written, before those already there
 pub record Spelt (old : List ℕ) (at k n base i rest : ℕ) (new : List ℕ) : Type 0 where

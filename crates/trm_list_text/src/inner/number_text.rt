@@ -58,6 +58,7 @@ fn spell_decimal(buf: &mut [u8], at: usize, k: usize, n: u64) -> usize
 }
 
 // How many decimal digits a number has: first the test for one, which most counts have, then by halves.
+#[tactic(auto, unfolding(crate::specs::Numbers::places))]
 fn places(n: u64) -> usize
     ensures { (result ≡ Numbers·places n) × (result ≤ 10) }
 {
