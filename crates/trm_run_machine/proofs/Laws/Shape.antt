@@ -1,9 +1,9 @@
 -- The record's arrays have the lengths of their types (`Shaped`, D-31).
 -- Idea: each field of a value of the record's type is a value of the field's type, and an array's type fixes its length.
 use Prim.Native.Nat.{ℕ}
-use mathlib.Core.Path.{◌≡◌, sym, ◌∙◌}
+use mathlib.Core.Path.{◌≡◌, sym}
 use mathlib.Core.List.{List}
-use lib.ListN.{length, length-map}
+use lib.ListN.{length}
 use native.Mathlib.Nat.{le_of_eq}
 use mir.Val.{Val}
 use denote.Laws.{Is}
@@ -19,11 +19,11 @@ use Rattle.trm_run_machine.proofs.machine.Machine.TheLaws as T'
 pub shaped_by_type : (m : Machine) (vs : List Val) → Is (row T.the_type) m vs → Shaped paper_geometry (record_of m)
 shaped_by_type m vs is =
     let f = LL.owed T.the_type T'.the_laws m vs is in
-    let regs : length m.regs ≡ 16 = sym (length-map m.regs (λ (x : ℕ). x)) ∙ f.1.0.1.0.1 in
-    let full : length m.full ≡ 16 = sym (length-map m.full (λ (x : ℕ). x)) ∙ f.1.1.0.1.0.1 in
-    let dirty : length m.dirty ≡ 16 = sym (length-map m.dirty (λ (x : ℕ). x)) ∙ f.1.1.1.0.1.0.1 in
-    let block : length m.block ≡ 16 = sym (length-map m.block (λ (x : ℕ). x)) ∙ f.1.1.1.1.0.1.0.1 in
-    let words : length m.words ≡ 128 = sym (length-map m.words (λ (x : ℕ). x)) ∙ f.1.1.1.1.1.0.1.0.1 in
+    let regs : length m.regs ≡ 16 = f.1.0.1.0.1 in
+    let full : length m.full ≡ 16 = f.1.1.0.1.0.1 in
+    let dirty : length m.dirty ≡ 16 = f.1.1.1.0.1.0.1 in
+    let block : length m.block ≡ 16 = f.1.1.1.1.0.1.0.1 in
+    let words : length m.words ≡ 128 = f.1.1.1.1.1.0.1.0.1 in
     record {
       regs = le_of_eq (sym regs);
       full = le_of_eq (sym full);

@@ -1,0 +1,86 @@
+-- By cases of the phase: in phase 5 no clock is run; else Laws/Gone for the clocks of `flight_ahead`.
+use mathlib.Core.Path.{refl, sym, ap, ◌∙◌, subst}
+use native.Mathlib.Omega.{arith}
+use mathlib.Core.List.{[]}
+use lib.ListN.{length, length-replicate}
+use Rattle.trm_clock_laws.specs.Made.{Ends}
+use Rattle.trm_run_phases.specs.Reached.{point}
+use Rattle.trm_list_rows.proofs.Laws.Onward.{onward-none}
+use Rattle.trm_list_rows.proofs.Laws.Gone.{under_able, gone-below, onward-gone, line_bytes_same}
+use Rattle.trm_list_rows.proofs.inner.row_clocks.gone_ahead.Goals as goal
+
+pub returns-then-c-eq5 : goal.returns-then-c-eq5
+returns-then-c-eq5 c = let p5 = c.if-c-eq5.true in (
+  λ b f. onward-none _ _ _ _ b c.requires.0 f,
+  refl,
+  c.requires.2,
+  refl,
+  omega arith,
+  omega arith,
+  λ _. record {
+    steps = λ z. absurd (omega (arith, p5, z));
+    writes = λ z. absurd (omega (arith, p5, z));
+    fills = λ z. absurd (omega (arith, p5, z));
+    waits = λ z. absurd (omega (arith, p5, z));
+  },
+)
+
+pub slice_bounds-same-end : goal.slice_bounds-same-end
+slice_bounds-same-end c = c.requires.5
+
+pub slice_bounds-flight_ahead-end : goal.slice_bounds-flight_ahead-end
+slice_bounds-flight_ahead-end c =
+    sym (ap length (line_bytes_same _ c.args.pins
+    c.requires.5) ∙ length-replicate _ _)
+
+pub flight_ahead-h-requires : goal.flight_ahead-h-requires
+flight_ahead-h-requires c =
+    let pre = c.requires in (
+      under_able _ _ c.args.l _ _ _ [] pre.0 _
+          pre.4 pre.5 _ (line_bytes_same _ _ pre.5) _ c.word_at-w.ensures,
+      pre.3,
+      pre.2,
+      c.if-c-eq5.false,
+    )
+
+pub overflow_sub-result : goal.overflow_sub-result
+overflow_sub-result c =
+    let pre = c.requires in
+    let q = c.flight_ahead-h.ensures in
+    let below = gone-below _ _ c.args.l _ _ _ [] pre.0 _ pre.4 pre.5 _ (line_bytes_same _ _ pre.5) pre.1 pre.2 _
+    c.word_at-w.ensures (point
+    c.flight_ahead-h.result _ _ _) q.0 q.3 in
+    omega (arith, below, pre.4)
+
+pub overflow_add-result : goal.overflow_add-result
+overflow_add-result c =
+    let pre = c.requires in
+    let q = c.flight_ahead-h.ensures in
+    let below = gone-below _ _ c.args.l _ _ _ [] pre.0 _ pre.4 pre.5 _ (line_bytes_same _ _ pre.5) pre.1 pre.2 _
+    c.word_at-w.ensures (point
+    c.flight_ahead-h.result _ _ _) q.0 q.3 in
+    omega (arith, below, pre.5, pre.0.few, pre.0.room)
+
+pub returns : goal.returns
+returns c =
+    let pre = c.requires in
+    let q = c.flight_ahead-h.ensures in
+    let same = line_bytes_same _ c.args.pins pre.5 in
+    let below = gone-below _ _ c.args.l _ _ _ [] pre.0 _ pre.4 pre.5 _ same pre.1 pre.2 _
+    c.word_at-w.ensures (point
+    c.flight_ahead-h.result _ _ _) q.0 q.3 in (
+      λ b f. onward-gone _ _ c.args.l _ _ _ b pre.0 _ pre.4 pre.5 _ same pre.1 pre.2 _
+          c.word_at-w.ensures (point
+          c.flight_ahead-h.result _ _ _) q.0 q.3 f,
+      q.1,
+      λ z. pre.2 (sym q.2 ∙ z),
+      refl,
+      omega arith,
+      omega (arith, below, pre.4),
+      λ more.
+          let long = ap length same ∙ length-replicate c.args.m
+          c.args.pins in
+          subst (λ w. Ends w c.flight_ahead-h.result.scalars.running)
+          c.word_at-w.ensures
+          (q.4 (omega (arith, below, pre.4, more, long))),
+    )
