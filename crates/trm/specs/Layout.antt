@@ -4,14 +4,15 @@
 --   record_version           goes up by one with each change of the record or of the C interface
 use Rattle.std.specs.Prelude.{ℕ}
 use prog.Memory.{size}
-use Rattle.trm_run_machine.proofs.machine.Machine.TheLaws.{mir}
-use Rattle.trm_board_calls.proofs.board_record.Board.TheLaws.{mir as board_mir}
+use denote.Memory.{lone}
+use Rattle.trm_run_machine.specs.contracts.machine.Machine as machine
+use Rattle.trm_board_calls.specs.contracts.board_record.Board as board
 
 abbrev pub record_size : ℕ
-record_size = size mir
+record_size = size (lone (machine.the_row).mir)
 
 abbrev pub board_size : ℕ
-board_size = size board_mir
+board_size = size (lone (board.the_row).mir)
 
 abbrev pub record_version : ℕ
 record_version = 3
