@@ -21,7 +21,7 @@ pub mod Counts
 pub mod Book
 pub mod Audit
 pub mod Runs
-pub mod CallContracts
+pub mod Contracts
 pub mod Witness
 pub mod Own
 pub mod Exchange

@@ -3,14 +3,9 @@
 -- A slice or record that is lent is a reference; a contract sees what it holds before and after the call.
 --   ShippedReset, ShippedValue, ShippedLent, ShippedRun    the `ensures` of trm's trm_reset, trm_clock_value, trm_clock and trm_run
 --   ResetMet, ClockMet, RunMet                             those of trm_calls' reset, clock and run
-use Rattle.std.specs.Prelude.{ℕ, ◌≡◌, refl, List}
-use base.Logic.{emp}
+use Rattle.std.specs.Prelude.{ℕ, ◌≡◌, List}
 use contract.Lifetimes.{Lfts}
-use Rattle.std.specs.Borrow.{Bor}
-use denote.Triple.Clauses.{AtExit}
-use borrow.Fn.Claims.{AllOf}
-use borrow.Fn.World.{ArgsD, ResD}
-use borrow.Fn.Read.{all_models, r_last, no_know}
+use Rattle.std.specs.Borrow.{Bor, MutBor}
 use Rattle.trm_run_machine.specs.declared.machine.Machine.{Machine}
 use Rattle.trm_calls.specs.declared.call_answers.Reset.{Reset}
 use Rattle.trm_run_machine.specs.declared.clock_answer.Clock.{Clock}
@@ -25,7 +20,7 @@ use Rattle.trm.specs.declared.exported_answers.RunAnswer.{RunAnswer}
 use Rattle.trm.proofs.exported_calls.trm_reset.Reads as shipped-reset
 use Rattle.trm.proofs.exported_calls.trm_clock_value.Reads as shipped-value
 use Rattle.trm.proofs.exported_calls.trm_run.Reads as shipped-run
-use Rattle.trm.specs.contracts.lent.trm_clock as shipped-lent
+use Rattle.trm.proofs.lent.trm_clock.Reads as shipped-lent
 
 pub record ShippedReset (s : List ℕ) (r : ResetAnswer) : Type 0 where
   pub lifetimes : Lfts 1
@@ -36,43 +31,35 @@ pub record ShippedReset (s : List ℕ) (r : ResetAnswer) : Type 0 where
 pub record ShippedValue (m : Machine) (p s : List ℕ) (line_byte input : ℕ) (r : ClockAnswer) (s' : List ℕ) : Type 0 where
   pub lifetimes : Lfts 2
   pub program : Bor (List ℕ)
-  pub store : Bor (List ℕ)
-  pub store' : Bor (List ℕ)
+  pub store : MutBor (List ℕ)
+  pub store' : MutBor (List ℕ)
   pub holds : (program.now ≡ p) × (store.now ≡ s) × (store'.now ≡ s')
   pub ensures : shipped-value.Post lifetimes (m, (program, (store, (line_byte, (input, tt))))) r
       (m, (program, (store', (line_byte, (input, tt)))))
 
--- The lent entry is proved by hand, so the checker makes no reading of its `ensures`: this is one, built from the clause in the same way
--- as those of the other functions.
-abbrev lent_post : (κs : Lfts 3) → ArgsD shipped-lent.signature κs → ResD shipped-lent.signature κs → AtExit shipped-lent.ended κs → Type 0
-lent_post κs a r e =
-    AllOf (all_models {Base = λ w. emp w.𝓤} {Know = no_know}
-    (λ w. (shipped-lent.clauses w.𝓛 w.𝓜.mem w.𝓡.run κs a).ensures tt r e)
-    (λ w. r_last _) (λ w. refl) (λ w. refl) (λ w. refl)).owes
-
 -- its record is lent: m before and m' after
 pub record ShippedLent (m : Machine) (p s : List ℕ) (line_byte input : ℕ) (m' : Machine) (r : LentAnswer) (s' : List ℕ) : Type 0 where
   pub lifetimes : Lfts 3
-  pub machine : Bor Machine
-  pub machine' : Bor Machine
+  pub machine : MutBor Machine
+  pub machine' : MutBor Machine
   pub program : Bor (List ℕ)
-  pub store : Bor (List ℕ)
-  pub store' : Bor (List ℕ)
+  pub store : MutBor (List ℕ)
+  pub store' : MutBor (List ℕ)
   pub holds : (machine.now ≡ m) × (machine'.now ≡ m') × (program.now ≡ p) × (store.now ≡ s) × (store'.now ≡ s')
-  pub ensures : lent_post lifetimes (machine, (program, (store, (line_byte, (input, tt))))) r
+  pub ensures : shipped-lent.Post lifetimes (machine, (program, (store, (line_byte, (input, tt))))) r
       (machine', (program, (store', (line_byte, (input, tt)))))
 
 pub record ShippedRun (m : Machine) (p s ls inputs bytes words : List ℕ) (r : RunAnswer) (s' bytes' words' : List ℕ) : Type 0 where
   pub lifetimes : Lfts 6
   pub program : Bor (List ℕ)
-  pub store : Bor (List ℕ)
-  pub store' : Bor (List ℕ)
+  pub store : MutBor (List ℕ)
+  pub store' : MutBor (List ℕ)
   pub line_bytes : Bor (List ℕ)
   pub input_words : Bor (List ℕ)
-  pub answer_bytes : Bor (List ℕ)
-  pub answer_bytes' : Bor (List ℕ)
-  pub answer_words : Bor (List ℕ)
-  pub answer_words' : Bor (List ℕ)
+  pub answer_bytes : MutBor (List ℕ)
+  pub answer_bytes' : MutBor (List ℕ)
+  pub answer_words : MutBor (List ℕ)
+  pub answer_words' : MutBor (List ℕ)
   pub holds : (program.now ≡ p) × (store.now ≡ s) × (store'.now ≡ s') × (line_bytes.now ≡ ls) × (input_words.now ≡ inputs)
       × (answer_bytes.now ≡ bytes) × (answer_bytes'.now ≡ bytes') × (answer_words.now ≡ words) × (answer_words'.now ≡ words')
   pub ensures : shipped-run.Post lifetimes
@@ -88,8 +75,8 @@ pub record ResetMet (s : List ℕ) (r : Reset) : Type 0 where
 pub record ClockMet (m : Machine) (p s : List ℕ) (line_byte input : ℕ) (r : Clock) (s' : List ℕ) : Type 0 where
   pub lifetimes : Lfts 2
   pub program : Bor (List ℕ)
-  pub store : Bor (List ℕ)
-  pub store' : Bor (List ℕ)
+  pub store : MutBor (List ℕ)
+  pub store' : MutBor (List ℕ)
   pub holds : (program.now ≡ p) × (store.now ≡ s) × (store'.now ≡ s')
   pub ensures : clock-reads.Post lifetimes (m, (program, (store, (line_byte, (input, tt))))) r
       (m, (program, (store', (line_byte, (input, tt)))))
@@ -97,14 +84,14 @@ pub record ClockMet (m : Machine) (p s : List ℕ) (line_byte input : ℕ) (r : 
 pub record RunMet (m : Machine) (p s ls inputs bytes words : List ℕ) (r : Run) (s' bytes' words' : List ℕ) : Type 0 where
   pub lifetimes : Lfts 6
   pub program : Bor (List ℕ)
-  pub store : Bor (List ℕ)
-  pub store' : Bor (List ℕ)
+  pub store : MutBor (List ℕ)
+  pub store' : MutBor (List ℕ)
   pub line_bytes : Bor (List ℕ)
   pub input_words : Bor (List ℕ)
-  pub answer_bytes : Bor (List ℕ)
-  pub answer_bytes' : Bor (List ℕ)
-  pub answer_words : Bor (List ℕ)
-  pub answer_words' : Bor (List ℕ)
+  pub answer_bytes : MutBor (List ℕ)
+  pub answer_bytes' : MutBor (List ℕ)
+  pub answer_words : MutBor (List ℕ)
+  pub answer_words' : MutBor (List ℕ)
   pub holds : (program.now ≡ p) × (store.now ≡ s) × (store'.now ≡ s') × (line_bytes.now ≡ ls) × (input_words.now ≡ inputs)
       × (answer_bytes.now ≡ bytes) × (answer_bytes'.now ≡ bytes') × (answer_words.now ≡ words) × (answer_words'.now ≡ words')
   pub ensures : run-reads.Post lifetimes

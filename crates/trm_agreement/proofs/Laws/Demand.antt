@@ -13,6 +13,7 @@ use Rattle.trm_word.specs.Address.{store_length_ok}
 use Rattle.trm_reference.specs.Geometry.{paper_geometry, burst}
 use Rattle.trm_reference.specs.Access.{Answer}
 use Rattle.trm_reference.specs.Trace.{After}
+use Rattle.trm_core.specs.Record as core
 use Rattle.trm_core.specs.Record.{Lent, reset_of, start}
 use Rattle.trm_core.specs.Refusals.{program_ok, store_ok, record_rows, clock_refusal, run_refusal}
 use Rattle.trm_run_machine.specs.declared.machine.Machine.{Machine}
@@ -32,7 +33,7 @@ use Rattle.trm_agreement.proofs.Laws.SameLog.{same_log}
 use Rattle.trm_agreement.proofs.Laws.Audit.{of-log}
 use Rattle.trm_agreement.proofs.Laws.Runs.{prefix-accepted}
 use Rattle.trm_agreement.proofs.Laws.Contracts.{value-says, lent_says, fails, Facts, facts}
-use Rattle.trm_agreement.proofs.Laws.Witness.{back, holding, exchange-exists}
+use Rattle.trm_agreement.proofs.Laws.Witness.{back, holding, lending, exchange-exists}
 use Rattle.trm_agreement.proofs.Laws.Exchange.{exchange-holds, refused-keeps, run-prefix}
 
 pub every_geometry : EveryGeometry
@@ -48,7 +49,8 @@ fails-second false = refl
 -- a record that no store fits: row 3, or else row 4
 pub no_store : (m : Machine) (s : List ℕ) → record_of m ≡ reset_of paper_geometry [] → store_ok (record_of m) s ≡ false
 unfolding store_ok reset_of
-no_store m s e = rw e (go (eqb (length s) 0) refl)
+no_store m s e =
+    let empty : m.scalars.size ≡ 0 = ap (λ (k : core.Machine). k.scalars.size) e in rw empty (go (eqb (length s) 0) refl)
   where
     go : (t : Bool) → eqb (length s) 0 ≡ t → store_length_ok (length s) && t ≡ false
     go true z = rw (eqb-true (length s) 0 z) (unfold store_length_ok in refl)
@@ -109,14 +111,14 @@ same_outcome m p s line_byte input r s₁ m₂ r₂ s₂ h g = (
 
 lent_too : (m : Machine) (p s : List ℕ) (line_byte input : ℕ) (r : ClockAnswer) (s' : List ℕ) → ShippedValue m p s line_byte input r s'
     → ShippedLent m p s line_byte input r.machine (without_record r) s'
-unfolding holding
+unfolding holding lending
 lent_too m p s line_byte input r s' h = let g = value-says m p s line_byte input r s' h in record {
   lifetimes = ([], ([], ([], tt)));
-  machine = holding m;
-  machine' = holding r.machine;
+  machine = lending m;
+  machine' = lending r.machine;
   program = holding p;
-  store = holding s;
-  store' = holding s';
+  store = lending s;
+  store' = lending s';
   holds = (refl, refl, refl, refl, refl);
   ensures = record { number = g.number; outcome = g.outcome };
 }

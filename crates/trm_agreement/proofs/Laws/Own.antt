@@ -24,7 +24,7 @@ use Rattle.trm_run_machine.specs.declared.machine.Machine.{Machine}
 use Rattle.trm_run_machine.specs.Machine.{record_of, lent}
 use Rattle.trm_calls.specs.Promises.{pins, reset_gives, clock_gives, run_gives}
 use Rattle.trm_agreement.specs.Claims.{ResetAnswered, ClockAnswered, RunAnswered, OwnAnswered}
-use Rattle.trm_agreement.proofs.Laws.Witness.{back, holding}
+use Rattle.trm_agreement.proofs.Laws.Witness.{back, holding, lending}
 
 -- a refusal from its number
 refusal_of : ℕ → Refusal
@@ -73,7 +73,7 @@ reset-answered s = record {
 }
 
 clock-answered : (m : Machine) (p s : List ℕ) (line_byte input : ℕ) → ClockAnswered m p s line_byte input
-unfolding back holding Named
+unfolding back holding lending Named
 clock-answered m p s line_byte input = record {
   result = record {
     refused = refusal_of (clock_refusal paper_geometry p (record_of m) s line_byte);
@@ -86,8 +86,8 @@ clock-answered m p s line_byte input = record {
   met = record {
     lifetimes = ([], ([], tt));
     program = holding p;
-    store = holding s;
-    store' = holding t.state.store;
+    store = lending s;
+    store' = lending t.state.store;
     holds = (refl, refl, refl);
     ensures = record { number = clock-named p (record_of m) s line_byte; outcome = refl };
   };
@@ -97,7 +97,7 @@ clock-answered m p s line_byte input = record {
     t = clock_gives p (lent m s) (pins line_byte input)
 
 run-answered : (m : Machine) (p s line_bytes inputs bytes words : List ℕ) → RunAnswered m p s line_bytes inputs bytes words
-unfolding back holding Named
+unfolding back holding lending Named
 run-answered m p s line_bytes inputs bytes words = record {
   result = record {
     refused = refusal_of (run_refusal paper_geometry p (record_of m) s line_bytes inputs bytes words);
@@ -111,14 +111,14 @@ run-answered m p s line_bytes inputs bytes words = record {
   met = record {
     lifetimes = ([], ([], ([], ([], ([], ([], tt))))));
     program = holding p;
-    store = holding s;
-    store' = holding t.state.store;
+    store = lending s;
+    store' = lending t.state.store;
     line_bytes = holding line_bytes;
     input_words = holding inputs;
-    answer_bytes = holding bytes;
-    answer_bytes' = holding t.bytes;
-    answer_words = holding words;
-    answer_words' = holding t.words;
+    answer_bytes = lending bytes;
+    answer_bytes' = lending t.bytes;
+    answer_words = lending words;
+    answer_words' = lending t.words;
     holds = (refl, refl, refl, refl, refl, refl, refl, refl, refl);
     ensures = record { number = run-named p (record_of m) s line_bytes inputs bytes words; outcome = refl };
   };

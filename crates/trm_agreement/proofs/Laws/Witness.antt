@@ -4,7 +4,7 @@
 use Prim.Native.Nat.{ℕ}
 use mathlib.Core.Path.{◌≡◌, refl}
 use mathlib.Core.List.{List, [], ◌∷◌}
-use denote.Ref.{Bor}
+use denote.Ref.{Bor, MutBor}
 use Rattle.trm_reference.specs.Geometry.{paper_geometry}
 use Rattle.trm_reference.specs.Access.{Answer}
 use Rattle.trm_reference.specs.Trace.{After}
@@ -36,6 +36,10 @@ back m = record {
 -- a reference that holds this value
 unfoldable pub holding : {A : Type 0} → A → Bor A
 holding x = record { ref_ptr = (0, 0); now = x }
+
+-- one that may change it
+unfoldable pub lending : {A : Type 0} → A → MutBor A
+lending x = record { ref_ptr = (0, 0); ghost_name = 0; now = x }
 
 reset-gives : List ℕ → ResetAnswer
 reset-gives s = record { number = reset_refusal s; machine = back (reset_gives s) }
@@ -70,7 +74,7 @@ module _ (p : List ℕ) where
 
   -- a clock call by value
   reply-met : (m : Machine) (s : List ℕ) (c : Call) → Meets p m s c (reply m s c)
-  unfolding reply clocked ran back holding
+  unfolding reply clocked ran back holding lending
   reply-met m s (clock_call line_byte input) = by_value line_byte input (record {
     machine = back (clocked m s line_byte input).state.machine;
     number = clock_refusal paper_geometry p (record_of m) s line_byte;
@@ -80,8 +84,8 @@ module _ (p : List ℕ) where
   }) (clocked m s line_byte input).state.store (record {
     lifetimes = ([], ([], tt));
     program = holding p;
-    store = holding s;
-    store' = holding (clocked m s line_byte input).state.store;
+    store = lending s;
+    store' = lending (clocked m s line_byte input).state.store;
     holds = (refl, refl, refl);
     ensures = record { number = refl; outcome = refl };
   })
@@ -95,14 +99,14 @@ module _ (p : List ℕ) where
       (record {
         lifetimes = ([], ([], ([], ([], ([], ([], tt))))));
         program = holding p;
-        store = holding s;
-        store' = holding (ran m s line_bytes inputs bytes words).state.store;
+        store = lending s;
+        store' = lending (ran m s line_bytes inputs bytes words).state.store;
         line_bytes = holding line_bytes;
         input_words = holding inputs;
-        answer_bytes = holding bytes;
-        answer_bytes' = holding (ran m s line_bytes inputs bytes words).bytes;
-        answer_words = holding words;
-        answer_words' = holding (ran m s line_bytes inputs bytes words).words;
+        answer_bytes = lending bytes;
+        answer_bytes' = lending (ran m s line_bytes inputs bytes words).bytes;
+        answer_words = lending words;
+        answer_words' = lending (ran m s line_bytes inputs bytes words).words;
         holds = (refl, refl, refl, refl, refl, refl, refl, refl, refl);
         ensures = record { number = refl; outcome = refl };
       })
