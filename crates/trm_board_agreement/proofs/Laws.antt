@@ -5,7 +5,7 @@ pub mod InStep
 pub mod Reads
 pub mod Turns
 pub mod Cores
-pub mod CallContracts
+pub mod Contracts
 pub mod Returns
 pub mod Numbers
 pub mod Exchange

@@ -4,7 +4,7 @@
 --                                                             trm_board_run and trm_board_run_joined
 use Rattle.std.specs.Prelude.{ℕ, ◌≡◌, List}
 use contract.Lifetimes.{Lfts}
-use Rattle.std.specs.Borrow.{Bor}
+use Rattle.std.specs.Borrow.{Bor, MutBor}
 use Rattle.trm_board_calls.specs.declared.board_record.Board.{Board}
 use Rattle.trm.specs.declared.exported_board.BoardResetAnswer.{BoardResetAnswer}
 use Rattle.trm.specs.declared.exported_board.BoardClockAnswer.{BoardClockAnswer}
@@ -24,8 +24,8 @@ pub record ResetMet (s : List ℕ) (r : BoardResetAnswer) : Type 0 where
 pub record GivenClock (b : Board) (p s : List ℕ) (given switches : ℕ) (r : BoardClockAnswer) (s' : List ℕ) : Type 0 where
   pub lifetimes : Lfts 2
   pub program : Bor (List ℕ)
-  pub store : Bor (List ℕ)
-  pub store' : Bor (List ℕ)
+  pub store : MutBor (List ℕ)
+  pub store' : MutBor (List ℕ)
   pub holds : (program.now ≡ p) × (store.now ≡ s) × (store'.now ≡ s')
   pub ensures : given-clock.Post lifetimes (b, (program, (store, (given, (switches, tt))))) r
       (b, (program, (store', (given, (switches, tt)))))
@@ -33,8 +33,8 @@ pub record GivenClock (b : Board) (p s : List ℕ) (given switches : ℕ) (r : B
 pub record JoinedClock (b : Board) (p s : List ℕ) (given switches : ℕ) (r : BoardClockAnswer) (s' : List ℕ) : Type 0 where
   pub lifetimes : Lfts 2
   pub program : Bor (List ℕ)
-  pub store : Bor (List ℕ)
-  pub store' : Bor (List ℕ)
+  pub store : MutBor (List ℕ)
+  pub store' : MutBor (List ℕ)
   pub holds : (program.now ≡ p) × (store.now ≡ s) × (store'.now ≡ s')
   pub ensures : joined-clock.Post lifetimes (b, (program, (store, (given, (switches, tt))))) r
       (b, (program, (store', (given, (switches, tt)))))
@@ -42,16 +42,16 @@ pub record JoinedClock (b : Board) (p s : List ℕ) (given switches : ℕ) (r : 
 -- the slices of a run, before and after it
 pub record Slices (p s gs ws lv bs os s' lv' bs' os' : List ℕ) : Type 0 where
   pub program : Bor (List ℕ)
-  pub store : Bor (List ℕ)
-  pub store' : Bor (List ℕ)
+  pub store : MutBor (List ℕ)
+  pub store' : MutBor (List ℕ)
   pub given : Bor (List ℕ)
   pub switches : Bor (List ℕ)
-  pub levels : Bor (List ℕ)
-  pub levels' : Bor (List ℕ)
-  pub bytes : Bor (List ℕ)
-  pub bytes' : Bor (List ℕ)
-  pub words : Bor (List ℕ)
-  pub words' : Bor (List ℕ)
+  pub levels : MutBor (List ℕ)
+  pub levels' : MutBor (List ℕ)
+  pub bytes : MutBor (List ℕ)
+  pub bytes' : MutBor (List ℕ)
+  pub words : MutBor (List ℕ)
+  pub words' : MutBor (List ℕ)
   pub holds : (program.now ≡ p) × (store.now ≡ s) × (store'.now ≡ s') × (given.now ≡ gs) × (switches.now ≡ ws)
       × (levels.now ≡ lv) × (levels'.now ≡ lv') × (bytes.now ≡ bs) × (bytes'.now ≡ bs') × (words.now ≡ os) × (words'.now ≡ os')
 

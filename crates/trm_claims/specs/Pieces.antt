@@ -4,7 +4,7 @@
 --   FirstMet, NextMet   the `ensures` of trm_listing's first_piece and next_piece        Pieces   some pieces, joined
 use Rattle.std.specs.Prelude.{ℕ, ◌≡◌, true, List, ◌++◌, take}
 use contract.Lifetimes.{Lfts}
-use Rattle.std.specs.Borrow.{Bor}
+use Rattle.std.specs.Borrow.{Bor, MutBor}
 use Rattle.trm_listing.specs.declared.inner.pieces.Listing.{Listing}
 use Rattle.trm_listing.specs.Listing.{output_of}
 use Rattle.trm_listing.proofs.inner.pieces.first_piece.Reads as first_reads
@@ -14,12 +14,12 @@ use Rattle.trm_listing.proofs.inner.pieces.next_piece.Reads as next-reads
 pub record FirstMet (s p st b : List ℕ) (r : Listing) (p' st' b' : List ℕ) : Type 0 where
   pub lifetimes : Lfts 4
   pub image : Bor (List ℕ)
-  pub program : Bor (List ℕ)
-  pub program' : Bor (List ℕ)
-  pub store : Bor (List ℕ)
-  pub store' : Bor (List ℕ)
-  pub text : Bor (List ℕ)
-  pub text' : Bor (List ℕ)
+  pub program : MutBor (List ℕ)
+  pub program' : MutBor (List ℕ)
+  pub store : MutBor (List ℕ)
+  pub store' : MutBor (List ℕ)
+  pub text : MutBor (List ℕ)
+  pub text' : MutBor (List ℕ)
   pub holds : (image.now ≡ s) × (program.now ≡ p) × (program'.now ≡ p') × (store.now ≡ st) × (store'.now ≡ st')
       × (text.now ≡ b) × (text'.now ≡ b')
   pub ensures : first_reads.Post lifetimes (image, (program, (store, (text, tt)))) r (image, (program', (store', (text', tt))))
@@ -29,10 +29,10 @@ pub record NextMet (s p st b : List ℕ) (l r : Listing) (st' b' : List ℕ) : T
   pub lifetimes : Lfts 4
   pub image : Bor (List ℕ)
   pub program : Bor (List ℕ)
-  pub store : Bor (List ℕ)
-  pub store' : Bor (List ℕ)
-  pub text : Bor (List ℕ)
-  pub text' : Bor (List ℕ)
+  pub store : MutBor (List ℕ)
+  pub store' : MutBor (List ℕ)
+  pub text : MutBor (List ℕ)
+  pub text' : MutBor (List ℕ)
   pub holds : (image.now ≡ s) × (program.now ≡ p) × (store.now ≡ st) × (store'.now ≡ st') × (text.now ≡ b) × (text'.now ≡ b')
   pub ensures : next-reads.Post lifetimes (l, (image, (program, (store, (text, tt))))) r (l, (image, (program, (store', (text', tt)))))
 

@@ -17,7 +17,7 @@ use Rattle.trm_board_calls.specs.Promises.{board_reset_gives, board_clock_gives,
 use Rattle.trm.specs.declared.exported_board.BoardResetAnswer.{BoardResetAnswer}
 use Rattle.trm.specs.declared.exported_board.BoardClockAnswer.{BoardClockAnswer}
 use Rattle.trm.specs.declared.exported_board.BoardRunAnswer.{BoardRunAnswer}
-use Rattle.trm_agreement.proofs.Laws.Witness.{back as machine_back, holding}
+use Rattle.trm_agreement.proofs.Laws.Witness.{back as machine_back, holding, lending}
 use Rattle.trm_board_agreement.specs.Calls.{BoardCall, clock_call, run_call}
 use Rattle.trm_board_agreement.specs.CallContracts.{ResetMet, Slices}
 use Rattle.trm_board_agreement.specs.Exchange.{starts, Returned, clock_returned, run_returned, board_left, store_left, Meets, by_clock}
@@ -66,19 +66,19 @@ module _ (p : List ℕ) where
   }
 
   slices : (s gs ws lv bs os : List ℕ) (t : BoardRan) → Slices p s gs ws lv bs os t.state.core.store t.levels t.bytes t.words
-  unfolding holding
+  unfolding holding lending
   slices s gs ws lv bs os t = record {
     program = holding p;
-    store = holding s;
-    store' = holding t.state.core.store;
+    store = lending s;
+    store' = lending t.state.core.store;
     given = holding gs;
     switches = holding ws;
-    levels = holding lv;
-    levels' = holding t.levels;
-    bytes = holding bs;
-    bytes' = holding t.bytes;
-    words = holding os;
-    words' = holding t.words;
+    levels = lending lv;
+    levels' = lending t.levels;
+    bytes = lending bs;
+    bytes' = lending t.bytes;
+    words = lending os;
+    words' = lending t.words;
     holds = (refl, refl, refl, refl, refl, refl, refl, refl, refl, refl, refl);
   }
 
@@ -93,13 +93,13 @@ module _ (p : List ℕ) where
       (ran b s joined gs ws lv bs os).levels (ran b s joined gs ws lv bs os).bytes (ran b s joined gs ws lv bs os).words
 
   reply-met : (b : Board) (s : List ℕ) (c : BoardCall) → Meets p b s c (reply b s c)
-  unfolding reply clocked clock-gives ran run-gives slices back machine_back holding
+  unfolding reply clocked clock-gives ran run-gives slices back machine_back holding lending
   reply-met b s (clock_call false given switches) = by_clock given switches (clock-gives b s false given switches)
       (clocked b s false given switches).state.core.store (record {
         lifetimes = ([], ([], tt));
         program = holding p;
-        store = holding s;
-        store' = holding (clocked b s false given switches).state.core.store;
+        store = lending s;
+        store' = lending (clocked b s false given switches).state.core.store;
         holds = (refl, refl, refl);
         ensures = record { number = refl; outcome = refl };
       })
@@ -107,8 +107,8 @@ module _ (p : List ℕ) where
       (clocked b s true given switches).state.core.store (record {
         lifetimes = ([], ([], tt));
         program = holding p;
-        store = holding s;
-        store' = holding (clocked b s true given switches).state.core.store;
+        store = lending s;
+        store' = lending (clocked b s true given switches).state.core.store;
         holds = (refl, refl, refl);
         ensures = record { number = refl; outcome = refl };
       })
