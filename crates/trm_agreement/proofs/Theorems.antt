@@ -9,11 +9,11 @@ use Rattle.trm_agreement.specs.Log.{log_of, answers_in, clocked_in}
 use Rattle.trm_agreement.specs.Claims.{CallsAreClocks, Claims}
 use Rattle.trm_agreement.proofs.Laws.Log.{calls-state, calls-clocked, calls-answers}
 use Rattle.trm_agreement.proofs.Laws.Bounds.{bounded}
-use Rattle.trm_agreement.proofs.Laws.Runs.{runs-are_runs}
-use Rattle.trm_agreement.proofs.Laws.Own.{own-answered}
-use Rattle.trm_agreement.proofs.Laws.Interrupts.{interrupt_rule, plain-clock}
-use Rattle.trm_agreement.proofs.Laws.Devices.{answers-hold, plain_devices}
-use Rattle.trm_agreement.proofs.Laws.Audit.{plain-machine}
+use Rattle.trm_agreement.proofs.Laws.Runs.{runs_are_runs}
+use Rattle.trm_agreement.proofs.Laws.Own.{own_answered}
+use Rattle.trm_agreement.proofs.Laws.Interrupts.{interrupt_rule, plain_clock}
+use Rattle.trm_agreement.proofs.Laws.Devices.{answers_hold, plain_devices}
+use Rattle.trm_agreement.proofs.Laws.Audit.{plain_machine}
 use Rattle.trm_agreement.proofs.Laws.Typed.{of_the_code}
 use Rattle.trm_agreement.proofs.Laws.Demand.{demand_3, every_geometry}
 
@@ -31,13 +31,13 @@ theorems =
       demand_3 = demand_3;
       every_geometry = every_geometry;
       interrupt_rule = interrupt_rule;
-      answers-hold = answers-hold;
-      plain-clock = plain-clock;
+      answers_hold = answers_hold;
+      plain_clock = plain_clock;
       plain_devices = plain_devices;
-      plain-machine = plain-machine;
+      plain_machine = plain_machine;
       bounded = bounded;
       calls_are_clocks = calls_are_clocks;
-      runs-are_runs = runs-are_runs;
-      own-answered = own-answered;
+      runs_are_runs = runs_are_runs;
+      own_answered = own_answered;
       of_the_code = of_the_code;
     }

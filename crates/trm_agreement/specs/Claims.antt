@@ -83,7 +83,7 @@ pub record OwnAnswered : Type 0 where
 -- The clock table and the record rule of trm_core for any record of the code that a clock call accepts, reached or not. The lengths of its
 -- arrays follow from its type (`Is`: m is a value of the declared type), so `Shaped` is not required (D-31).
 pub record OfTheCode (m : Machine) : Type 0 where
-  pub clock-table : (p s : List ℕ) (pins : Pins) → clock_refusal paper_geometry p (record_of m) s pins.line_byte ≡ 0
+  pub clock_table : (p s : List ℕ) (pins : Pins) → clock_refusal paper_geometry p (record_of m) s pins.line_byte ≡ 0
       → stalled pins.line_byte ≡ false → acknowledges (record_of m) pins ≡ false → Counted paper_geometry p (lent m s) pins
   pub record_kept : (p s : List ℕ) (pins : Pins) → clock_refusal paper_geometry p (record_of m) s pins.line_byte ≡ 0
       → Kept paper_geometry p (clock_of paper_geometry p (lent m s) pins).state
@@ -92,12 +92,12 @@ pub record Claims : Type 0 where
   pub demand_3 : Demand3
   pub every_geometry : EveryGeometry
   pub interrupt_rule : InterruptRule
-  pub answers-hold : AnswersHold
-  pub plain-clock : (G : Geometry) (p : List ℕ) (q : Reference) (i : Pins) → PlainClock G p q i
+  pub answers_hold : AnswersHold
+  pub plain_clock : (G : Geometry) (p : List ℕ) (q : Reference) (i : Pins) → PlainClock G p q i
   pub plain_devices : PlainDevices
-  pub plain-machine : PlainMachine
+  pub plain_machine : PlainMachine
   pub bounded : Bounded
   pub calls_are_clocks : (G : Geometry) (p : List ℕ) (q : Reference) (cs : List Call) → CallsAreClocks G p q cs
-  pub runs-are_runs : RunsAreRuns
-  pub own-answered : OwnAnswered
+  pub runs_are_runs : RunsAreRuns
+  pub own_answered : OwnAnswered
   pub of_the_code : (m : Machine) (vs : List Val) → Is (row the_type) m vs → OfTheCode m

@@ -50,9 +50,9 @@ pub record Holds (G : Geometry) (p s : List ℕ) (cs : List Call) (first : Seen)
   -- "each device load or store reaches the device once, on finishing, in program order"
   pub devices : device_answers (answers_in es) ≡ accesses_in G p (opened first) es
   -- "no call of the list is refused with 5"
-  pub never-five : All (λ a. number_of a ≢ 5) (returns_in es)
+  pub never_five : All (λ a. number_of a ≢ 5) (returns_in es)
   -- what is seen of the last states of the two machines is equal
-  pub state-alike : last ≡ reference_seen (state_of feed answer (reference_engine G p) (reference_reset s) cs)
+  pub state_alike : last ≡ reference_seen (state_of feed answer (reference_engine G p) (reference_reset s) cs)
 
 -- the first k clocks of a run, as the log shows them
 abbrev pub first_clocks : List ℕ → Machine → List ℕ → List ℕ → List ℕ → ℕ → List LogEntry
@@ -88,15 +88,15 @@ pub record Demand3 : Type 0 where
       (seen_at paper_geometry (machine_at m as') (store_at s as'))
   pub longest_161 : longest paper_geometry ≡ 161
   -- "any first memory", one that reset refuses: every call with the record that it returned is refused with 3 or 4
-  pub refused-reset : (s₀ : List ℕ) (m : Machine) → Fails s₀ m → (p s : List ℕ) (c : Call) (a : Returned) → Meets p m s c a
+  pub refused_reset : (s₀ : List ℕ) (m : Machine) → Fails s₀ m → (p s : List ℕ) (c : Call) (a : Returned) → Meets p m s c a
       → a ≡ as_given m s c (cond (program_ok p) 4 3)
   -- "A refused call moves nothing", with any record: it returns the number, and everything else as it was given
   pub refused : (p : List ℕ) (m : Machine) (s : List ℕ) (c : Call) (a : Returned) → Meets p m s c a → code_returned a ≢ 0
       → a ≡ as_given m s c (code_returned a)
   -- "after every clock", for the clocks within a run: each is what a shorter run returns; that run is accepted if the whole one is
-  pub run-prefix : (p : List ℕ) (m : Machine) (s line_bytes inputs bytes words : List ℕ) (k : ℕ) (a : Returned) → k ≤ length line_bytes
+  pub run_prefix : (p : List ℕ) (m : Machine) (s line_bytes inputs bytes words : List ℕ) (k : ℕ) (a : Returned) → k ≤ length line_bytes
       → Meets p m s (run_call (take k line_bytes) (take k inputs) bytes words) a → code_returned a ≡ 0 → Prefix p m s line_bytes inputs k a
-  pub prefix-accepted : (G : Geometry) (p : List ℕ) (x : Lent) (line_bytes inputs bytes words : List ℕ) (k : ℕ) → k ≤ length line_bytes
+  pub prefix_accepted : (G : Geometry) (p : List ℕ) (x : Lent) (line_bytes inputs bytes words : List ℕ) (k : ℕ) → k ≤ length line_bytes
       → run_refusal G p x.machine x.store line_bytes inputs bytes words ≡ 0
       → run_refusal G p x.machine x.store (take k line_bytes) (take k inputs) (take k bytes) (take k words) ≡ 0
   -- "a second entry lends the record itself for one clock, with the same outcome": whatever the clock by value returns the lent clock
@@ -116,5 +116,5 @@ pub record Demand3 : Type 0 where
 -- rule (`interrupt_chosen`, which `audited` has in bits) and what an interrupt does (`interrupted`); rows 3 and 6 to 8; the inputs and
 -- returns of a call (`feed`, `answer`, `clocks`, `finished_in`, `bytes_of`, `words_of`).
 -- WHERE THAT IS CHECKED, by cases computed from the definitions: the tables of trm_reference (`starred`, `clock_table`, `executed`,
--- `accesses`, `interrupts`, `histories`, `stalls`), `rows` of trm_alu's Bench, `addresses-hold` of trm_word, the scenario of trm_core;
--- rows 3 and 6 to 8 by `refusals_hold` and `limits` of trm_core; the inputs and returns of a run by `runs-are_runs`.
+-- `accesses`, `interrupts`, `histories`, `stalls`), `rows` of trm_alu's Bench, `addresses_hold` of trm_word, the scenario of trm_core;
+-- rows 3 and 6 to 8 by `refusals_hold` and `limits` of trm_core; the inputs and returns of a run by `runs_are_runs`.

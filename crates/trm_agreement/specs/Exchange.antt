@@ -115,7 +115,7 @@ module _ (G : Geometry) (p : List ℕ) where
   clock_history m s is = entries feed answer (record_engine G p) (clocks (clock_of G p) (lent m s) is) is
 
   -- The clocks of a call that is not refused. The clock of a clock call is the record and the store left and the answer returned. A run
-  -- returns only its last state, which its end shows: its clocks are the clock history, and `run-prefix` of `Demand3` says that each of
+  -- returns only its last state, which its end shows: its clocks are the clock history, and `run_prefix` of `Demand3` says that each of
   -- them is what the run of as many line bytes returns.
   unfoldable pub shown : Machine → List ℕ → Call → Returned → List LogEntry
   shown m s c (clock_returned number left store out) = cond (eqb number 0) (alone (seen_at G left store) out (feed c)) []

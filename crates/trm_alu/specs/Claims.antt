@@ -52,12 +52,12 @@ abbrev pub BenchHolds : Type 0
 BenchHolds = AllHold rows
 
 pub record Claims : Type 0 where
-  pub mul-starts : MulStarts
-  pub mul-steps : MulSteps
-  pub mul-ends : MulEnds
-  pub mul-exact : MulExact
-  pub div-steps : DivSteps
+  pub mul_starts : MulStarts
+  pub mul_steps : MulSteps
+  pub mul_ends : MulEnds
+  pub mul_exact : MulExact
+  pub div_steps : DivSteps
   pub div_floors : DivFloors
-  pub add-carries : AddCarries
-  pub sub-carries : SubCarries
+  pub add_carries : AddCarries
+  pub sub_carries : SubCarries
   pub bench_holds : BenchHolds

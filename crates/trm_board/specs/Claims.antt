@@ -24,5 +24,5 @@ pub record RangesKept : Type 0 where
 pub record Claims : Type 1 where
   -- computed cases, against a second reading
   pub scripts_hold : all_same rows ≡ true
-  pub course-holds : CourseHolds
-  pub ranges-kept : RangesKept
+  pub course_holds : CourseHolds
+  pub ranges_kept : RangesKept

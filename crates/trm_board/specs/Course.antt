@@ -68,18 +68,18 @@ pub record LoopBack (T : Timing) (ts : List Turn) (d : Devices) : Type 0 where
 pub record Course (T : Timing) (ts : List Turn) (d : Devices) : Type 0 where
   -- each clock, from the reset on, does what the definitions say
   pub follows : Follows T 0 devices_reset ts d
-  pub loop-back : all_joined (inputs_in ts) ≡ true → LoopBack T ts d
+  pub loop_back : all_joined (inputs_in ts) ≡ true → LoopBack T ts d
   -- on any line: a received byte goes to a read that finds the bit set, or is replaced by the next, or is unread at the end; nothing else
   -- is handed; nothing is replaced exactly under the proviso
   pub gone : each (received_in T) ts ≡ bytes_of (each (fates_in T) ts) ++ unread d.serial
   pub handed : handed_of (each (fates_in T) ts) ≡ each handed_in ts
   pub kept : in_time false (each (marks_in T) ts) ≡ none (replaced_in (each (fates_in T) ts))
   -- at every clock, and at the end
-  pub busy-at : (before after : List Turn) (t : Turn) → ts ≡ before ++ (t ∷ after) → Busy T before t.before
-  pub busy-end : Busy T ts d
+  pub busy_at : (before after : List Turn) (t : Turn) → ts ≡ before ++ (t ∷ after) → Busy T before t.before
+  pub busy_end : Busy T ts d
   -- "rises whenever the clock count comes to a multiple of 116,600; a rise in the clock of a clearing write wins"
-  pub tick-at : (before after : List Turn) (t : Turn) → ts ≡ before ++ (t ∷ after) → t.before.tick ≡ tick_by T (bytes_back before [])
-  pub tick-end : d.tick ≡ tick_by T (bytes_back ts [])
+  pub tick_at : (before after : List Turn) (t : Turn) → ts ≡ before ++ (t ∷ after) → t.before.tick ≡ tick_by T (bytes_back before [])
+  pub tick_end : d.tick ≡ tick_by T (bytes_back ts [])
   -- "6 reads milliseconds (the clock count over 116,600, rounded down)": the count is that of the clocks before
   pub milliseconds : (before after : List Turn) (t : Turn) → ts ≡ before ++ (t ∷ after) → byte_of t ≡ read_by 6
       → word_of t ≡ length before / T.tick

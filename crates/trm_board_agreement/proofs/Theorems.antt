@@ -2,16 +2,16 @@
 use Rattle.trm_board_agreement.specs.Claims.{Claims}
 use Rattle.trm_board_agreement.proofs.Laws.Exchange.{exchange-holds}
 use Rattle.trm_board_agreement.proofs.Laws.Witness.{exchange-exists}
-use Rattle.trm_board_agreement.proofs.Laws.Refused.{refused-keeps, refused-reset}
-use Rattle.trm_board_agreement.proofs.Laws.Prefix.{run-prefix}
+use Rattle.trm_board_agreement.proofs.Laws.Refused.{refused-keeps, refused_reset}
+use Rattle.trm_board_agreement.proofs.Laws.Prefix.{run_prefix}
 
 pub theorems : Claims
 theorems = record {
   board_demand = record {
     holds = exchange-holds;
-    refused-reset = refused-reset;
+    refused_reset = refused_reset;
     refused = refused-keeps;
-    run-prefix = run-prefix;
+    run_prefix = run_prefix;
     exists = exchange-exists;
   };
 }

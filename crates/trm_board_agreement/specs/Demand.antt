@@ -50,9 +50,9 @@ pub record Holds (p s : List ℕ) (cs : List BoardCall) (first : BoardSeen) (es 
   pub joined : joined_calls cs ≡ true → all_joined (inputs_in (turns_in first es)) ≡ true
   -- "A board field outside its range is refused with 5": none leaves it, and no call of the list is refused with 5
   pub ranges : devices_ok paper_timing last.devices ≡ true
-  pub never-five : All (λ a. number_of a ≢ 5) (returns_in es)
+  pub never_five : All (λ a. number_of a ≢ 5) (returns_in es)
   -- what is seen of the last states of the two boards is equal
-  pub state-alike : last ≡ plain_seen (state_of feed answer (plain_board p) (board_reset (reference_reset s)) cs)
+  pub state_alike : last ≡ plain_seen (state_of feed answer (plain_board p) (board_reset (reference_reset s)) cs)
 
 -- What the run of the first k bytes of a run returns: the k-th state of the clock history, k clocks used, and the instructions, levels and
 -- answers of these clocks.
@@ -76,13 +76,13 @@ pub record BoardDemand : Type 0 where
   pub holds : (p s : List ℕ) (b : Board) (cs : List BoardCall) (as' : List Returned) → Starts s b → Exchange p b s cs as'
       → Holds p s cs (seen_at b s) (exchange_log p b s cs as') (seen_at (board_after b as') (store_after s as'))
   -- a first memory that reset refuses: every call with the board that it returned is refused with 3 or 4
-  pub refused-reset : (s₀ : List ℕ) (b : Board) → Fails s₀ b → (p s : List ℕ) (c : BoardCall) (a : Returned) → Meets p b s c a
+  pub refused_reset : (s₀ : List ℕ) (b : Board) → Fails s₀ b → (p s : List ℕ) (c : BoardCall) (a : Returned) → Meets p b s c a
       → a ≡ as_given b s c (cond (program_ok p) 4 3)
   -- a refused call, with any board: it returns the number, and everything else as it was given
   pub refused : (p : List ℕ) (b : Board) (s : List ℕ) (c : BoardCall) (a : Returned) → Meets p b s c a → code_returned a ≢ 0
       → a ≡ as_given b s c (code_returned a)
   -- the clocks within a run: each is what a shorter run returns
-  pub run-prefix : (p : List ℕ) (b : Board) (s gs ws lv bs os lv₀ bs₀ os₀ : List ℕ) (j : Bool) (k : ℕ) (a : Returned)
+  pub run_prefix : (p : List ℕ) (b : Board) (s gs ws lv bs os lv₀ bs₀ os₀ : List ℕ) (j : Bool) (k : ℕ) (a : Returned)
       → k ≤ length gs → Meets p b s (run_call j (take k gs) (take k ws) lv₀ bs₀ os₀) a → code_returned a ≡ 0
       → Prefix p b s (run_call j gs ws lv bs os) k a
   -- such returns exist: for every program, every first memory that reset accepts and every list of calls

@@ -96,7 +96,7 @@ module _ (p : List ℕ) where
   clock_history b s is = entries feed answer (record_board p) (board_history p (board_of b s) is) is
 
   -- The clocks of a call that is not refused. The clock of a clock call is the board and the store left and what was returned. A run
-  -- returns only its last state, which its end shows: its clocks are the clock history, and `run-prefix` of the claims says that each of
+  -- returns only its last state, which its end shows: its clocks are the clock history, and `run_prefix` of the claims says that each of
   -- them is what the run of as many bytes returns.
   unfoldable pub shown : Board → List ℕ → BoardCall → Returned → List BoardEntry
   shown b s c (clock_returned number left store out) = cond (eqb number 0) (alone (seen_at left store) out (feed c)) []

@@ -39,8 +39,8 @@ abbrev pub StepsHold : Type 0
 StepsHold = AllHold rows
 
 pub record Claims : Type 0 where
-  pub write_is-copy : WriteIsCopy
+  pub write_is_copy : WriteIsCopy
   pub fill_is_copy : FillIsCopy
   pub fill_other_lines : FillOtherLines
-  pub fill-marks : FillMarks
-  pub steps-hold : StepsHold
+  pub fill_marks : FillMarks
+  pub steps_hold : StepsHold

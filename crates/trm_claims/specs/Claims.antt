@@ -40,7 +40,7 @@ pub record Claims : Type 1 where
   -- the board beside any core
   pub board : BoardClaims
   -- the core of document 01 is one that the board can have inside
-  pub board-calls : BoardCallClaims
+  pub board_calls : BoardCallClaims
   -- REQUEST A1 AND DEMAND 3 OF THE BOARD
   pub board_agreement : BoardAgreementClaims
   -- which bytes are images

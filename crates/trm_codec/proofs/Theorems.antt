@@ -6,13 +6,13 @@ use Rattle.trm_codec.specs.Encode.{encode_of}
 use Rattle.trm_codec.specs.Worked.{RowsHold}
 use Rattle.trm_codec.specs.Claims.{Claims, WordsHold}
 use Rattle.trm_codec.proofs.Laws.Numbers.{decode-number, encode-number}
-use Rattle.trm_codec.proofs.Laws.Recode.{decode-encode}
-use Rattle.trm_codec.proofs.Laws.RoundTrip.{encode-decode}
-use Rattle.trm_codec.proofs.Laws.Plain.{plain-decode, plain-encode}
+use Rattle.trm_codec.proofs.Laws.Recode.{decode_encode}
+use Rattle.trm_codec.proofs.Laws.RoundTrip.{encode_decode}
+use Rattle.trm_codec.proofs.Laws.Plain.{plain_decode, plain_encode}
 
-words-hold : WordsHold
+words_hold : WordsHold
 unfolding RowsHold decode_of instruction_of arithmetic_of control_of encode_of
-words-hold = (
+words_hold = (
   (refl, refl),
   (
     (refl, refl),
@@ -71,11 +71,11 @@ words-hold = (
 pub theorems : Claims
 theorems =
     record {
-      decode-encode = decode-encode;
-      encode-decode = encode-decode;
-      decode-refuses = decode-number;
-      encode-refuses = encode-number;
-      plain-decode = plain-decode;
-      plain-encode = plain-encode;
-      words-hold = words-hold;
+      decode_encode = decode_encode;
+      encode_decode = encode_decode;
+      decode_refuses = decode-number;
+      encode_refuses = encode-number;
+      plain_decode = plain_decode;
+      plain_encode = plain_encode;
+      words_hold = words_hold;
     }

@@ -47,10 +47,10 @@ abbrev pub PlainEncode : Type 0
 PlainEncode = (w : ℕ) → w < 2 ^ 18 → (fields_refusal (fields_given w) ≡ 0) × (word_given (fields_given w) ≡ unused_zero w)
 
 pub record Claims : Type 0 where
-  pub decode-encode : DecodeEncode
-  pub encode-decode : EncodeDecode
-  pub decode-refuses : DecodeRefuses
-  pub encode-refuses : EncodeRefuses
-  pub plain-decode : PlainDecode
-  pub plain-encode : PlainEncode
-  pub words-hold : WordsHold
+  pub decode_encode : DecodeEncode
+  pub encode_decode : EncodeDecode
+  pub decode_refuses : DecodeRefuses
+  pub encode_refuses : EncodeRefuses
+  pub plain_decode : PlainDecode
+  pub plain_encode : PlainEncode
+  pub words_hold : WordsHold

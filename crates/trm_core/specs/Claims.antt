@@ -160,12 +160,12 @@ pub record Limits : Type 0 where
   pub others : map store_length_ok (0 ∷ 32 ∷ 63 ∷ 65 ∷ 96 ∷ 65536 ∷ []) ≡ replicate 6 false
 
 pub record Claims : Type 0 where
-  pub clock-table : ClockTable
+  pub clock_table : ClockTable
   pub record_kept : RecordKept
-  pub reset-kept : ResetKept
+  pub reset_kept : ResetKept
   pub deaf : Deaf
   pub clocks_are_three : ClocksAreThree
-  pub held-waits : HeldWaits
+  pub held_waits : HeldWaits
   pub seen_changes_last : SeenChangesLast
   pub scenario_holds : ScenarioHolds
   pub refusals_hold : RefusalsHold

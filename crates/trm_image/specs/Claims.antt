@@ -61,8 +61,8 @@ WrittenAccepted =
     → (image_fault n (image_bytes second I) ≡ record { number = 0; at = 0 }) × (image_of (image_bytes second I) ≡ I)
 
 pub record Claims : Type 0 where
-  pub refused-first : RefusedFirst
-  pub accepted-described : AcceptedDescribed
-  pub written-accepted : WrittenAccepted
-  pub cases-hold : CasesHold
-  pub payloads-given : PayloadsGiven
+  pub refused_first : RefusedFirst
+  pub accepted_described : AcceptedDescribed
+  pub written_accepted : WrittenAccepted
+  pub cases_hold : CasesHold
+  pub payloads_given : PayloadsGiven

@@ -24,4 +24,4 @@ pub record ExampleHolds : Type 0 where
       ≡ 114 ∷ 101 ∷ 102 ∷ 117 ∷ 115 ∷ 101 ∷ 100 ∷ 32 ∷ 49 ∷ 32 ∷ 54 ∷ 53 ∷ 53 ∷ 51 ∷ 53 ∷ 10 ∷ []
 
 pub record Claims : Type 0 where
-  pub example-holds : ExampleHolds
+  pub example_holds : ExampleHolds

@@ -3,4 +3,4 @@
 use Rattle.trm_listing.specs.Examples.{ExamplesHold}
 
 pub record Claims : Type 0 where
-  pub examples-hold : ExamplesHold
+  pub examples_hold : ExamplesHold

@@ -51,7 +51,7 @@ pub record StartHolds (s program₀ st₀ b₀ : List ℕ) (r : Listing) (progra
   pub ready : Ready s (take r.words program) st r
   pub fits : r.len ≤ length b
   pub words : r.words ≤ length program
-  pub program-is : program ≡ program_after s program₀
+  pub program_is : program ≡ program_after s program₀
   pub store_is : st ≡ store_after s st₀
   pub programmed : length program ≡ 4096
   pub stored : length st ≡ 2048

@@ -1,19 +1,19 @@
 -- Proves every field of `Claims`; each but one is a table of Laws/Tables.antt.
 use Rattle.trm_reference.specs.Claims.{Claims}
-use Rattle.trm_reference.proofs.Laws.Tables.{starred-hold, clock_table-holds, executed-hold, accesses-hold}
-use Rattle.trm_reference.proofs.Laws.Comparisons.{compares-addresses}
-use Rattle.trm_reference.proofs.Laws.Tables.{comparisons-hold, interrupts-hold, histories-hold, stalls-hold}
+use Rattle.trm_reference.proofs.Laws.Tables.{starred_hold, clock_table_holds, executed_hold, accesses_hold}
+use Rattle.trm_reference.proofs.Laws.Comparisons.{compares_addresses}
+use Rattle.trm_reference.proofs.Laws.Tables.{comparisons_hold, interrupts_hold, histories_hold, stalls_hold}
 
 pub theorems : Claims
 theorems =
     record {
-      starred-hold = starred-hold;
-      clock_table-holds = clock_table-holds;
-      executed-hold = executed-hold;
-      comparisons-hold = comparisons-hold;
-      compares-addresses = compares-addresses;
-      accesses-hold = accesses-hold;
-      interrupts-hold = interrupts-hold;
-      histories-hold = histories-hold;
-      stalls-hold = stalls-hold;
+      starred_hold = starred_hold;
+      clock_table_holds = clock_table_holds;
+      executed_hold = executed_hold;
+      comparisons_hold = comparisons_hold;
+      compares_addresses = compares_addresses;
+      accesses_hold = accesses_hold;
+      interrupts_hold = interrupts_hold;
+      histories_hold = histories_hold;
+      stalls_hold = stalls_hold;
     }

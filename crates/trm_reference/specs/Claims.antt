@@ -57,12 +57,12 @@ abbrev pub StallsHold : Type 0
 StallsHold = AllHold stalls
 
 pub record Claims : Type 0 where
-  pub starred-hold : StarredHold
-  pub clock_table-holds : ClockTableHolds
-  pub executed-hold : ExecutedHold
-  pub comparisons-hold : ComparisonsHold
-  pub compares-addresses : ComparesAddresses
-  pub accesses-hold : AccessesHold
-  pub interrupts-hold : InterruptsHold
-  pub histories-hold : HistoriesHold
-  pub stalls-hold : StallsHold
+  pub starred_hold : StarredHold
+  pub clock_table_holds : ClockTableHolds
+  pub executed_hold : ExecutedHold
+  pub comparisons_hold : ComparisonsHold
+  pub compares_addresses : ComparesAddresses
+  pub accesses_hold : AccessesHold
+  pub interrupts_hold : InterruptsHold
+  pub histories_hold : HistoriesHold
+  pub stalls_hold : StallsHold

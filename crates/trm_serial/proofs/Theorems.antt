@@ -11,11 +11,11 @@ use Rattle.trm_serial.specs.Claims.{LoopBackHolds, Claims}
 use Rattle.trm_serial.proofs.Laws.Lists.{all-handed}
 use Rattle.trm_serial.proofs.Laws.Fates.{fates}
 use Rattle.trm_serial.proofs.Laws.Joined.{all-received}
-use Rattle.trm_serial.proofs.Laws.Busy.{busy-holds}
+use Rattle.trm_serial.proofs.Laws.Busy.{busy_holds}
 use Rattle.trm_serial.proofs.Laws.Cases.{small, paper, echoes}
 
-loop-back : LoopBackHolds
-loop-back T fits as' = record { whole = whole; received = all-received T fits as'; fates = by_fates }
+loop_back : LoopBackHolds
+loop_back T fits as' = record { whole = whole; received = all-received T fits as'; fates = by_fates }
   where
     end-unread : List Prim.Native.Nat.ℕ
     end-unread = unread (joined_end T serial_reset as')
@@ -50,8 +50,8 @@ theorems =
       paper_fits = record { first = omega arith; last = omega arith; ticks = omega arith };
       small_cases = small;
       paper_frame = paper;
-      loop-back = loop-back;
+      loop_back = loop_back;
       echoes = echoes;
       fates = λ T fits s is. fates T fits s is;
-      busy-holds = busy-holds;
+      busy_holds = busy_holds;
     }

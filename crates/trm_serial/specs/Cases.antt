@@ -324,7 +324,7 @@ missed =
 pub record Echoes : Type 0 where
   pub proviso : in_time false (each (marks_at echo_timing) (joined echo_timing serial_reset echo)) ≡ true
   pub accepted : each accepted_at (joined echo_timing serial_reset echo) ≡ 65 ∷ 90 ∷ 7 ∷ []
-  pub handed-over : each handed_at (joined echo_timing serial_reset echo) ≡ 65 ∷ 90 ∷ []
+  pub handed_over : each handed_at (joined echo_timing serial_reset echo) ≡ 65 ∷ 90 ∷ []
   pub line : on_line echo_timing (joined_end echo_timing serial_reset echo) ≡ 7 ∷ []
   pub broken : in_time false (each (marks_at echo_timing) (joined echo_timing serial_reset missed)) ≡ false
   pub lost : each (fate_at echo_timing) (joined echo_timing serial_reset missed) ≡ replaced 65 ∷ handed 90 ∷ []

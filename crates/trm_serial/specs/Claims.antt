@@ -62,7 +62,7 @@ pub record Claims : Type 0 where
   -- small timings, joined and noisy lines, against a second reading; the paper's own frame, clock by clock
   pub small_cases : all_same rows ≡ true
   pub paper_frame : same paper_changes paper_expected ≡ true
-  pub loop-back : LoopBackHolds
+  pub loop_back : LoopBackHolds
   pub echoes : Echoes
   pub fates : FatesHold
-  pub busy-holds : BusyHolds
+  pub busy_holds : BusyHolds

@@ -1,20 +1,20 @@
 -- Proves every field of `Claims`.
--- The addresses compute; `devices_fit` follows from the test in `place_of`, `conditions-paired` from its eight cases.
+-- The addresses compute; `devices_fit` follows from the test in `place_of`, `conditions_paired` from its eight cases.
 use Rattle.std.proofs.Common.{◌≡◌, ℕ, zero, suc, ◌-◌, ◌%◌, ◌<◌, Bool, true, false, cond, ltb, refl, arith}
 use Rattle.trm_word.specs.declared.inner.address.Place.TheVariants.{Device, Memory}
 use Rattle.trm_word.specs.Address.{effective_address}
 use Rattle.trm_word.specs.Claims.{Claims, DevicesFit, ConditionsPaired}
 
-conditions-paired : ConditionsPaired
-conditions-paired zero n z c v h = refl
-conditions-paired (suc zero) n z c v h = refl
-conditions-paired (suc (suc zero)) n z c v h = refl
-conditions-paired (suc (suc (suc zero))) n z c v h = refl
-conditions-paired (suc (suc (suc (suc zero)))) n z c v h = refl
-conditions-paired (suc (suc (suc (suc (suc zero))))) n z c v h = refl
-conditions-paired (suc (suc (suc (suc (suc (suc zero)))))) n z c v h = refl
-conditions-paired (suc (suc (suc (suc (suc (suc (suc zero))))))) n z c v h = refl
-conditions-paired (suc (suc (suc (suc (suc (suc (suc (suc k)))))))) n z c v h = absurd (omega arith)
+conditions_paired : ConditionsPaired
+conditions_paired zero n z c v h = refl
+conditions_paired (suc zero) n z c v h = refl
+conditions_paired (suc (suc zero)) n z c v h = refl
+conditions_paired (suc (suc (suc zero))) n z c v h = refl
+conditions_paired (suc (suc (suc (suc zero)))) n z c v h = refl
+conditions_paired (suc (suc (suc (suc (suc zero))))) n z c v h = refl
+conditions_paired (suc (suc (suc (suc (suc (suc zero)))))) n z c v h = refl
+conditions_paired (suc (suc (suc (suc (suc (suc (suc zero))))))) n z c v h = refl
+conditions_paired (suc (suc (suc (suc (suc (suc (suc (suc k)))))))) n z c v h = absurd (omega arith)
 
 devices_fit : DevicesFit
 devices_fit base offset length n = go (ltb (effective_address base offset) 0xFFC0) refl
@@ -28,7 +28,7 @@ devices_fit base offset length n = go (ltb (effective_address base offset) 0xFFC
 pub theorems : Claims
 theorems =
     record {
-      addresses-hold = record { wraps = refl; seven = refl; memory = refl; device = refl };
+      addresses_hold = record { wraps = refl; seven = refl; memory = refl; device = refl };
       devices_fit = devices_fit;
-      conditions-paired = conditions-paired;
+      conditions_paired = conditions_paired;
     }

@@ -23,6 +23,6 @@ abbrev pub DevicesFit : Type 0
 DevicesFit = (base offset length n : ℕ) → place_of (effective_address base offset) length ≡ Device n → n < 64
 
 pub record Claims : Type 0 where
-  pub addresses-hold : AddressesHold
+  pub addresses_hold : AddressesHold
   pub devices_fit : DevicesFit
-  pub conditions-paired : ConditionsPaired
+  pub conditions_paired : ConditionsPaired

@@ -27,7 +27,7 @@ use Rattle.trm_agreement.specs.Plain.{plain_entries, plain_end, plain_book, Plai
 use Rattle.trm_agreement.proofs.Laws.Log.{calls_last}
 use Rattle.trm_agreement.proofs.Laws.Numbers.{returns_not_five}
 use Rattle.trm_agreement.proofs.Laws.Devices.{one_access}
-use Rattle.trm_agreement.proofs.Laws.Book.{seen_of, book_of, due-is, Kept, balanced, Step, clock-step, reset-kept}
+use Rattle.trm_agreement.proofs.Laws.Book.{seen_of, book_of, due-is, Kept, balanced, Step, clock-step, reset_kept}
 
 module _ (G : Geometry) (p : List ℕ) where
   -- a call that ends with what its last clock left
@@ -145,16 +145,16 @@ opens_at s = refl
 
 module _ (G : Geometry) (pos : 0 < burst G) (p s : List ℕ) where
   log-opens : Balanced G p (opened (reference_seen (reference_reset s)))
-  log-opens = rw (opens_at s) (balanced G p pos (reference_reset s) 0 0 0 (reset-kept G p s))
+  log-opens = rw (opens_at s) (balanced G p pos (reference_reset s) 0 0 0 (reset_kept G p s))
 
   log_audited : (cs : List Call) → Audited G p (opened (reference_seen (reference_reset s)))
       (calls feed answer (reference_engine G p) (reference_reset s) cs)
-  log_audited cs = rw (opens_at s) (audited_calls G pos p cs (reference_reset s) 0 0 0 (reset-kept G p s))
+  log_audited cs = rw (opens_at s) (audited_calls G pos p cs (reference_reset s) 0 0 0 (reset_kept G p s))
 
   clocks_audited : (is : List Pins) → Audited G p (opened (reference_seen (reference_reset s)))
       (entries feed answer (reference_engine G p) (clocks (reference_clock G p) (reference_reset s) is) is)
   unfolding Audited
-  clocks_audited is = rw (opens_at s) (rw (append-nil _) at (audited_clocks G pos p is [] (reference_reset s) 0 0 0 (reset-kept G p s)
+  clocks_audited is = rw (opens_at s) (rw (append-nil _) at (audited_clocks G pos p is [] (reference_reset s) 0 0 0 (reset_kept G p s)
       (λ sp hd ch k. tt)))
 
   -- a log that equals the reference machine's, and what is seen last in it
@@ -167,8 +167,8 @@ module _ (G : Geometry) (pos : 0 < burst G) (p s : List ℕ) where
     balanced = λ ds rest e. prefixes G p (opened first) ds rest (rw starts log-opens) (rw e at audit);
     audited = audit;
     devices = audited_devices G p (opened first) es audit;
-    never-five = rw others (returns_not_five G p (reference_reset s) cs);
-    state-alike = sym end ∙ ap₂ last_seen starts others ∙ calls_last feed answer (reference_engine G p) (reference_reset s) cs;
+    never_five = rw others (returns_not_five G p (reference_reset s) cs);
+    state_alike = sym end ∙ ap₂ last_seen starts others ∙ calls_last feed answer (reference_engine G p) (reference_reset s) cs;
   }
     where
       starts : first ≡ reference_seen (reference_reset s)
@@ -195,8 +195,8 @@ finished-took G p b i w o = go (stalled i.line_byte) (interrupting b i)
     go false true x e = absurd (unlike x.silent e)
     go false false x e = (rw (eq-eqb o.done 1 e) at x).took
 
-pub plain-machine : PlainMachine
-plain-machine G p s is = record {
+pub plain_machine : PlainMachine
+plain_machine G p s is = record {
   audited = λ pos. clocks_audited G pos p s is;
   clocks = rw at-end r.kept.clocks;
   held = rw at-end r.kept.held;
@@ -212,7 +212,7 @@ plain-machine G p s is = record {
     q = plain_end G p s is
 
     r : Reached G p q (book_at G p (book_of (reference_reset s) 0 0 0) (plain_entries G p s is))
-    r = reached-clocks G p is (reference_reset s) 0 0 0 (reset-kept G p s)
+    r = reached-clocks G p is (reference_reset s) 0 0 0 (reset_kept G p s)
 
     at-end : plain_book G p s is ≡ book_of q r.sp r.hd r.ch
     at-end = ap (λ b. book_at G p b (plain_entries G p s is)) (opens_at s) ∙ r.is

@@ -29,7 +29,7 @@ use Rattle.trm_agreement.specs.Book.{missing, evicting, due, refill_over, writeb
 use Rattle.trm_agreement.specs.Audit.{Balanced, Does}
 use Rattle.trm_agreement.proofs.Laws.Bounds.{charge-pos, charge-bounded}
 use Rattle.trm_agreement.proofs.Laws.Interrupts.{taken_in-bits, goes_to}
-use Rattle.trm_agreement.proofs.Laws.Devices.{answers-hold, device_arrives}
+use Rattle.trm_agreement.proofs.Laws.Devices.{answers_hold, device_arrives}
 use Rattle.trm_agreement.proofs.Laws.Counts.{fills, writes, idle-fills, idle-writes, spent-fills, spent-writes, done-fills}
 use Rattle.trm_agreement.proofs.Laws.Counts.{done-writes, joined-fills, joined-writes, refill-adds, writeback_adds}
 
@@ -237,7 +237,7 @@ module _ (G : Geometry) (p : List ℕ) where
         visible = refl;
         memory = refl;
         answer = refl;
-        answers = answers-hold (word_for q) q.visible (length q.memory) i.input;
+        answers = answers_hold (word_for q) q.visible (length q.memory) i.input;
         arrives = device_arrives (word_for q) q.visible (length q.memory) i.input _ (let y = k.wide in omega arith);
       };
       sp' = 0;
@@ -291,6 +291,6 @@ module _ (G : Geometry) (p : List ℕ) where
         go false e false f n g = let more = eqb-false q.left 0 f in
             take_step q.left e (rw (ne_eqb sp 0 (k.flying more))) more (k.sum more)
 
-  pub reset-kept : (s : List ℕ) → Kept (reference_reset s) 0 0 0
+  pub reset_kept : (s : List ℕ) → Kept (reference_reset s) 0 0 0
   unfolding reference_reset reset_visible refills_in writebacks_in
-  reset-kept s = idle-kept (reference_reset s) 0 0 refl refl refl refl (λ _. refl) refl
+  reset_kept s = idle-kept (reference_reset s) 0 0 refl refl refl refl (λ _. refl) refl

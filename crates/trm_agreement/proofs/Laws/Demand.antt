@@ -31,10 +31,10 @@ use Rattle.trm_agreement.specs.Claims.{EveryGeometry}
 use Rattle.trm_agreement.proofs.Laws.Log.{calls_last}
 use Rattle.trm_agreement.proofs.Laws.SameLog.{same_log}
 use Rattle.trm_agreement.proofs.Laws.Audit.{of-log}
-use Rattle.trm_agreement.proofs.Laws.Runs.{prefix-accepted}
+use Rattle.trm_agreement.proofs.Laws.Runs.{prefix_accepted}
 use Rattle.trm_agreement.proofs.Laws.Contracts.{value-says, lent_says, fails, Facts, facts}
 use Rattle.trm_agreement.proofs.Laws.Witness.{back, holding, lending, exchange-exists}
-use Rattle.trm_agreement.proofs.Laws.Exchange.{exchange-holds, refused-keeps, run-prefix}
+use Rattle.trm_agreement.proofs.Laws.Exchange.{exchange-holds, refused-keeps, run_prefix}
 
 pub every_geometry : EveryGeometry
 unfolding log_of record_engine
@@ -74,9 +74,9 @@ no_code p m s (run_call line_bytes inputs bytes words) (clock_returned number le
 no_code p m s (run_call line_bytes inputs bytes words) (run_returned number left store used finished bytes' words') e h =
     h.number ∙ no_rows p m s _ e
 
-refused-reset : (s₀ : List ℕ) (m : Machine) → Fails s₀ m → (p s : List ℕ) (c : Call) (a : Returned) → Meets p m s c a
+refused_reset : (s₀ : List ℕ) (m : Machine) → Fails s₀ m → (p s : List ℕ) (c : Call) (a : Returned) → Meets p m s c a
     → a ≡ as_given m s c (cond (program_ok p) 4 3)
-refused-reset s₀ m f p s c a h =
+refused_reset s₀ m f p s c a h =
     refused-keeps p m s c a h (λ z. not-zero (program_ok p) (sym code ∙ z)) ∙ ap (as_given m s c) code
   where
     code : code_returned a ≡ cond (program_ok p) 4 3
@@ -128,10 +128,10 @@ unfolding longest burst
 demand_3 = record {
   holds = exchange-holds;
   longest_161 = refl;
-  refused-reset = refused-reset;
+  refused_reset = refused_reset;
   refused = refused-keeps;
-  run-prefix = run-prefix;
-  prefix-accepted = prefix-accepted;
+  run_prefix = run_prefix;
+  prefix_accepted = prefix_accepted;
   lent_too = lent_too;
   same_outcome = same_outcome;
   exists = exchange-exists;

@@ -21,7 +21,7 @@ use Rattle.trm_reference.specs.Reference.{Reference, carry_out, reference_clock}
 use Rattle.trm_core.proofs.Laws.Deaf.{load-only}
 use Rattle.trm_agreement.specs.Audit.{Answers, device_answers}
 use Rattle.trm_agreement.specs.Plain.{plain_accesses, PlainDevices}
-use Rattle.trm_agreement.proofs.Laws.Interrupts.{plain-clock}
+use Rattle.trm_agreement.proofs.Laws.Interrupts.{plain_clock}
 
 -- the byte of an access is not zero
 byte-shows : (w : ℕ) (v : Visible) (n i : ℕ) → eqb (answer_of w v n i).byte 0 ≡ not (to_device w v n)
@@ -52,9 +52,9 @@ load-arrives w v x e h = rw (eqb-true (operation w) 12 e) (get_or-set_same v.reg
     small = let a = mod-lt (v.status / 2 ^ 2) {m = 2} (omega arith) in let b = mod-lt (w / 2 ^ 11) {m = 2 ^ 3}
         (omega arith) in omega arith
 
-pub answers-hold : (w : ℕ) (v : Visible) (n i : ℕ) → Answers w v n i (answer_of w v n i)
+pub answers_hold : (w : ℕ) (v : Visible) (n i : ℕ) → Answers w v n i (answer_of w v n i)
 unfolding answer_of device_answer stored
-answers-hold w v n i = record { reads = λ d l. rw (d, load-only w l); writes = λ d s. rw (d, s); none = λ d. rw d }
+answers_hold w v n i = record { reads = λ d l. rw (d, load-only w l); writes = λ d s. rw (d, s); none = λ d. rw d }
 
 pub device_arrives : (w : ℕ) (v : Visible) (n i x : ℕ) → 16 ≤ length v.regs → to_device w v n ≡ true → is_load w ≡ true
     → register (execute w v (loaded w v n i x)) (destination w) ≡ i
@@ -85,10 +85,10 @@ plain_devices G p q (i ∷ is) =
     said = answer_of word q.visible (length q.memory) i.input
 
     is_said : u.out.done ≡ 1 → u.out ≡ said
-    is_said d = ap (λ (x : After Reference Answer). x.out) ((plain-clock G p q i).carries d) ∙ unfold carry_out in refl
+    is_said d = ap (λ (x : After Reference Answer). x.out) ((plain_clock G p q i).carries d) ∙ unfold carry_out in refl
 
     go : (t : Bool) → eqb u.out.done 1 ≡ t → (rest : List Answer)
         → cond (eqb u.out.byte 0) rest (u.out ∷ rest)
         ≡ cond (t && to_device word q.visible (length q.memory)) (said ∷ rest) rest
     go true e rest = rw (is_said (eqb-true u.out.done 1 e)) (one_access word q.visible (length q.memory) i.input rest)
-    go false e rest = rw ((plain-clock G p q i).quiet (eqb-false u.out.done 1 e))
+    go false e rest = rw ((plain_clock G p q i).quiet (eqb-false u.out.done 1 e))

@@ -32,7 +32,7 @@ use Rattle.trm_agreement.proofs.Laws.Contracts.{starts, ClockFacts, RunFacts, Fa
 use Rattle.trm_agreement.proofs.Laws.Log.{clocks-take, entries-take, entries-answers, entries-last, last-ended}
 use Rattle.trm_agreement.proofs.Laws.SameLog.{same_log}
 use Rattle.trm_agreement.proofs.Laws.Audit.{of-log}
-use Rattle.trm_agreement.proofs.Laws.Runs.{runs-are_runs}
+use Rattle.trm_agreement.proofs.Laws.Runs.{runs_are_runs}
 use Rattle.trm_agreement.proofs.Laws.Witness.{back}
 
 module _ (p : List ℕ) where
@@ -121,7 +121,7 @@ module _ (p : List ℕ) where
           ≡ answer code (run_call line_bytes inputs bytes words) (outs_of (clocks_in m s (run_call line_bytes inputs bytes words)))
       go true e = ap (reported code) (gives true e)
           ∙ ap (λ n. reported n (run_of paper_geometry p (lent m s) line_bytes inputs)) (eqb-true code 0 e)
-          ∙ sym (runs-are_runs paper_geometry p (lent m s) line_bytes inputs bytes words (eqb-true code 0 e)).reports
+          ∙ sym (runs_are_runs paper_geometry p (lent m s) line_bytes inputs bytes words (eqb-true code 0 e)).reports
           ∙ ap (λ n. answer n (run_call line_bytes inputs bytes words) (outs_of (clocks_in m s (run_call line_bytes inputs bytes words))))
           (sym (eqb-true code 0 e))
       go false e = ap (reported code) (gives false e) ∙ rw e
@@ -129,7 +129,7 @@ module _ (p : List ℕ) where
       lasts : (t : Bool) → eqb code 0 ≡ t
           → lent left store ≡ end_of (lent m s) (clocks_in m s (run_call line_bytes inputs bytes words))
       lasts true e = ap (λ u. u.state) (gives true e)
-          ∙ sym (runs-are_runs paper_geometry p (lent m s) line_bytes inputs bytes words (eqb-true code 0 e)).state
+          ∙ sym (runs_are_runs paper_geometry p (lent m s) line_bytes inputs bytes words (eqb-true code 0 e)).state
       lasts false e = ap (λ u. u.state) (gives false e) ∙ sym (ap (end_of (lent m s)) (none e))
 
   step_of : (m : Machine) (s : List ℕ) (c : Call) (a : Returned) → Facts p m s c a → Step m s c a
@@ -230,9 +230,9 @@ prefix-of p m s line_bytes inputs bytes words k (run_returned number left store 
     last : lent left store ≡ end_of (lent m s) (take k (history_of paper_geometry p (lent m s) line_bytes inputs))
     last = ap (λ u. u.state) taken ∙ ap (end_of (lent m s)) (history-take k p (lent m s) line_bytes inputs)
 
-pub run-prefix : (p : List ℕ) (m : Machine) (s line_bytes inputs bytes words : List ℕ) (k : ℕ) (a : Returned) → k ≤ length line_bytes
+pub run_prefix : (p : List ℕ) (m : Machine) (s line_bytes inputs bytes words : List ℕ) (k : ℕ) (a : Returned) → k ≤ length line_bytes
     → Meets p m s (run_call (take k line_bytes) (take k inputs) bytes words) a → code_returned a ≡ 0 → Prefix p m s line_bytes inputs k a
-run-prefix p m s line_bytes inputs bytes words k a few h z = prefix-of p m s line_bytes inputs bytes words k a few
+run_prefix p m s line_bytes inputs bytes words k a few h z = prefix-of p m s line_bytes inputs bytes words k a few
     (facts p m s (run_call (take k line_bytes) (take k inputs) bytes words) a h) z
 
 -- a refused call, by its facts

@@ -94,9 +94,9 @@ module _ (G : Geometry) (p : List ℕ) (q : Reference) (i : Pins) where
       go false true false = interrupt_shows G w q i.input chosen
       go false false c = off-shows G w q i.input q.left
 
-  pub plain-clock : PlainClock G p q i
+  pub plain_clock : PlainClock G p q i
   unfolding reference_clock reference_unheld
-  plain-clock = record {
+  plain_clock = record {
     held = λ s. rw s;
     takes = λ s z e. rw (s, eq-eqb q.left 0 z, named e, goes_to q.visible.status i.line_byte e);
     begins = λ s z e. rw (s, eq-eqb q.left 0 z, unnamed e);

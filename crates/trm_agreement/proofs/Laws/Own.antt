@@ -127,5 +127,5 @@ run-answered m p s line_bytes inputs bytes words = record {
     t : Ran
     t = run_gives p (lent m s) line_bytes inputs bytes words
 
-pub own-answered : OwnAnswered
-own-answered = record { reset = reset-answered; clock = clock-answered; run = run-answered }
+pub own_answered : OwnAnswered
+own_answered = record { reset = reset-answered; clock = clock-answered; run = run-answered }

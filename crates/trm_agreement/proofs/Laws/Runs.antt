@@ -95,10 +95,10 @@ low-take (suc k) limit [] e = refl
 low-take (suc k) limit (x ∷ xs) e =
     both (leb x limit) (all_at_most limit xs) (λ a b. a &t low-take k limit xs b) e
 
-pub prefix-accepted : (G : Geometry) (p : List ℕ) (x : Lent) (line_bytes inputs bytes words : List ℕ) (k : ℕ) → k ≤ length line_bytes
+pub prefix_accepted : (G : Geometry) (p : List ℕ) (x : Lent) (line_bytes inputs bytes words : List ℕ) (k : ℕ) → k ≤ length line_bytes
     → run_refusal G p x.machine x.store line_bytes inputs bytes words ≡ 0
     → run_refusal G p x.machine x.store (take k line_bytes) (take k inputs) (take k bytes) (take k words) ≡ 0
-prefix-accepted G p x line_bytes inputs bytes words k few r =
+prefix_accepted G p x line_bytes inputs bytes words k few r =
     passes G p x (take k line_bytes) (take k inputs) (take k bytes) (take k words) (record {
       program = t.program;
       store = t.store;
@@ -120,9 +120,9 @@ prefix-accepted G p x line_bytes inputs bytes words k few r =
     is : length (take k inputs) ≡ k
     is = length-take-le k inputs (rw (← t.same) few)
 
-pub runs-are_runs : RunsAreRuns
+pub runs_are_runs : RunsAreRuns
 unfolding clocks_of record_engine record_code feed answer run_of history_of
-runs-are_runs G p x line_bytes inputs bytes words r = record {
+runs_are_runs G p x line_bytes inputs bytes words r = record {
   clocks = rw (eq-eqb (run_refusal G p x.machine x.store line_bytes inputs bytes words) 0 r)
       (clocks-length (clock_of G p) x (pins_of line_bytes inputs)
       ∙ pins-length line_bytes inputs (let_through G p x line_bytes inputs bytes words r).same);

@@ -14,6 +14,6 @@ use Rattle.trm_agreement.specs.Claims.{OfTheCode}
 
 pub of_the_code : (m : Machine) (vs : List Val) → Is (row the_type) m vs → OfTheCode m
 of_the_code m vs is = record {
-  clock-table = λ p s pins. theorems.clock-table paper_geometry p (lent m s) pins paper_ok (shaped_by_type m vs is);
+  clock_table = λ p s pins. theorems.clock_table paper_geometry p (lent m s) pins paper_ok (shaped_by_type m vs is);
   record_kept = λ p s pins. theorems.record_kept paper_geometry p (lent m s) pins paper_ok (shaped_by_type m vs is);
 }

@@ -93,9 +93,9 @@ product-within a b ha hb = go (sign b hb) (sign a ha)
         rw (s, t) (negation-within (2 ^ 63) (suc m * l) (omega arith) (omega arith))
     go (minus m hm _ s _) (minus l hl _ t _) = rw (s, t) (small (suc m) (suc l) (omega arith) (omega arith))
 
-pub mul-exact : (a b : ℕ) → a < 2 ^ 32 → b < 2 ^ 32
+pub mul_exact : (a b : ℕ) → a < 2 ^ 32 → b < 2 ^ 32
     → signed (high_word (product a b)) *ℤ pos (2 ^ 32) +ℤ pos (low_word (product a b)) ≡ product a b
-mul-exact a b ha hb =
+mul_exact a b ha hb =
     let z = product a b in
     let w = product-within a b ha hb in
     rw (word-high z w, word_low z, signed_word (floor_div z (2 ^ 32)) (quotient-within z w)) (floor_div-floor_mod z (2 ^ 32) (lit< tt))

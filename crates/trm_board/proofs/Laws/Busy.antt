@@ -76,7 +76,7 @@ module _ (T : Timing) (fits : Fits T) (ts : List Turn) (d : Devices) (follows : 
   end_is = serial_end T 0 devices_reset ts d follows
 
   line : serial.Busy T (givens T ts)
-  line = (proved.theorems).busy-holds T (givens T ts)
+  line = (proved.theorems).busy_holds T (givens T ts)
 
   -- an accepted write, in its turn and on the line
   module _ (before : List Turn) (write : Turn) (rest : List Turn) (split : ts ≡ before ++ (write ∷ rest)) where

@@ -52,7 +52,7 @@ module _ (T : Timing) (fits : Fits T) (ts : List Turn) (d : Devices) (follows : 
   -- joined to itself
   module _ (j : all_joined (inputs_in ts) ≡ true) where
     line : serial.LoopBack T (accesses ts)
-    line = (proved.theorems).loop-back T fits (accesses ts)
+    line = (proved.theorems).loop_back T fits (accesses ts)
 
     fed-is : givens T ts ≡ fed T serial_reset (accesses ts)
     fed-is = given-joined T 0 devices_reset ts d follows j
@@ -114,14 +114,14 @@ module _ (T : Timing) (fits : Fits T) (ts : List Turn) (d : Devices) (follows : 
   pub course-follows : Course T ts d
   course-follows = record {
     follows = follows;
-    loop-back = loops;
+    loop_back = loops;
     gone = received ∙ none_before on_line_lem.all ∙ ap₂ ◌++◌ (ap bytes_of (sym fates)) (ap unread (sym end_is));
     handed = ap handed_of fates ∙ on_line_lem.handed ∙ sym handed;
     kept = ap (in_time false) marks ∙ not_set on_line_lem.kept ∙ ap (λ fs. none (replaced_in fs)) (sym fates);
-    busy-at = λ before after t split. busy-follows T fits before t.before (cut before after t split).first;
-    busy-end = busy-follows T fits ts d follows;
-    tick-at = λ before after t split. ticks before t.before (cut before after t split).first;
-    tick-end = ticks ts d follows;
+    busy_at = λ before after t split. busy-follows T fits before t.before (cut before after t split).first;
+    busy_end = busy-follows T fits ts d follows;
+    tick_at = λ before after t split. ticks before t.before (cut before after t split).first;
+    tick_end = ticks ts d follows;
     milliseconds = milliseconds;
     falls = falls;
   }

@@ -44,9 +44,9 @@ pub range-ok : (d : Devices) → InRange d → devices_ok paper_timing d ≡ tru
 unfolding devices_ok
 range-ok d h = ok-narrow d.serial h.serial &t le-leb d.tick 1 h.tick &t le-leb d.lamps 1023 h.lamps
 
-pub ranges-kept : RangesKept
+pub ranges_kept : RangesKept
 unfolding devices_ok serial_ok frame stop_sample
-ranges-kept = record {
+ranges_kept = record {
   reset = refl;
   clock = λ line count byte word d l h. range-ok _ (in_range-clock line count byte word d l (in_range d h));
 }

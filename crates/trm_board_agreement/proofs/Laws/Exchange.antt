@@ -30,7 +30,7 @@ use Rattle.trm_agreement.specs.Book.{opened}
 use Rattle.trm_agreement.specs.Audit.{Audited}
 use Rattle.trm_agreement.specs.Demand.{All}
 use Rattle.trm_agreement.proofs.Laws.Log.{calls-state, calls_last}
-use Rattle.trm_agreement.proofs.Laws.Audit.{plain-machine, audited_devices}
+use Rattle.trm_agreement.proofs.Laws.Audit.{plain_machine, audited_devices}
 use Rattle.trm_board_agreement.specs.Calls.{BoardCall, feed, answer, number_of, BoardSeen, BoardEntry, board_seen, plain_seen}
 use Rattle.trm_board_agreement.specs.Calls.{record_board, plain_board}
 use Rattle.trm_board_agreement.specs.Exchange.{Starts, Returned, Exchange, board_after, store_after, seen_at, exchange_log}
@@ -69,12 +69,12 @@ module _ (p s : List ℕ) (cs : List BoardCall) where
   end-state = calls-state feed answer (record_board p) x₀ cs ∙ sym (end_is p x₀ fed_by)
 
   course-of : Course paper_timing all_turns last_state.devices
-  course-of = (board.theorems).course-holds paper_timing (serial.theorems).paper_fits Lent (record_core paper_geometry p) (record_obeys p)
+  course-of = (board.theorems).course_holds paper_timing (serial.theorems).paper_fits Lent (record_core paper_geometry p) (record_obeys p)
       (start paper_geometry s) zero-count fed_by
 
   range-of : devices_ok paper_timing last_state.devices ≡ true
   range-of = ap (λ (x : BoardOf Lent). devices_ok paper_timing x.devices) (end_is p x₀ fed_by)
-      ∙ range-ok _ (range-end p fed_by x₀ (fed-bits p x₀ cs) (in_range devices_reset (board.theorems).ranges-kept.reset))
+      ∙ range-ok _ (range-end p fed_by x₀ (fed-bits p x₀ cs) (in_range devices_reset (board.theorems).ranges_kept.reset))
 
   pub log-holds : (first : BoardSeen) (es : List BoardEntry) (last : BoardSeen)
       → begins first ∷ es ≡ log_of feed answer (record_board p) x₀ cs → log_of feed answer (record_board p) x₀ cs ≡ log_of feed answer
@@ -89,8 +89,8 @@ module _ (p s : List ℕ) (cs : List BoardCall) where
     course = subst₂ (Course paper_timing) (sym turned) (sym last_devices) course-of;
     joined = λ e. ap (λ ts. all_joined (inputs_in ts)) turned ∙ ap all_joined (inputs_turns p x₀ fed_by) ∙ fed-joined p x₀ cs e;
     ranges = ap (devices_ok paper_timing) last_devices ∙ range-of;
-    never-five = subst (λ fs. All (λ a. number_of a ≢ 5) (returns_in fs)) (sym es-plain) (returns_not_five p y₀ cs);
-    state-alike = sym end ∙ ap₂ last_seen first_plain es-plain ∙ calls_last feed answer (plain_board p) y₀ cs;
+    never_five = subst (λ fs. All (λ a. number_of a ≢ 5) (returns_in fs)) (sym es-plain) (returns_not_five p y₀ cs);
+    state_alike = sym end ∙ ap₂ last_seen first_plain es-plain ∙ calls_last feed answer (plain_board p) y₀ cs;
   }
     where
       core-claim : BoardSeen → List BoardEntry → Type 0
@@ -112,7 +112,7 @@ module _ (p s : List ℕ) (cs : List BoardCall) where
       audit : Audited paper_geometry p (opened first.core) (cores_in first es)
       audit = subst₂ (λ w fs. Audited paper_geometry p (opened w.core) (cores_in w fs)) (sym first_plain) (sym es-plain)
           (subst (λ fs. Audited paper_geometry p (opened (reference_seen (reference_reset s))) fs) (sym (cores_calls p y₀ cs))
-          ((plain-machine paper_geometry p s (fed_in (plain_seen y₀) (calls feed answer (plain_board p) y₀ cs))).audited (unfold burst in
+          ((plain_machine paper_geometry p s (fed_in (plain_seen y₀) (calls feed answer (plain_board p) y₀ cs))).audited (unfold burst in
           (omega arith))))
 
       turned : turns_in first es ≡ all_turns

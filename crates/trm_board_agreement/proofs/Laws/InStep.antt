@@ -159,5 +159,5 @@ module _ (p : List ℕ) where
       (board_reset (start paper_geometry s)) (board_reset (reference_reset s)) cs (record {
         core = reset-tied paper_geometry p s paper_ok taken;
         same = refl;
-        range = in_range devices_reset (board.theorems).ranges-kept.reset;
+        range = in_range devices_reset (board.theorems).ranges_kept.reset;
       })

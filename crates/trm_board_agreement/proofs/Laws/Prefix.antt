@@ -58,7 +58,7 @@ prefix-of p b s gs ws lv bs os lv₀ bs₀ os₀ j k (run_returned number left s
     taken : ran_of left store used finished lv' bs' os' ≡ board_run_of p (board_of b s) j (take k gs) (take k ws)
     taken = h.outcome ∙ rw (eq-eqb (board_run_refusal p (board_of b s) (take k gs) (take k ws) lv₀ bs₀ os₀) 0 (sym h.number ∙ z))
 
-pub run-prefix : (p : List ℕ) (b : Board) (s gs ws lv bs os lv₀ bs₀ os₀ : List ℕ) (j : Bool) (k : ℕ) (a : Returned) → k ≤ length gs
+pub run_prefix : (p : List ℕ) (b : Board) (s gs ws lv bs os lv₀ bs₀ os₀ : List ℕ) (j : Bool) (k : ℕ) (a : Returned) → k ≤ length gs
     → Meets p b s (run_call j (take k gs) (take k ws) lv₀ bs₀ os₀) a → code_returned a ≡ 0 → Prefix p b s (run_call j gs ws lv bs os) k a
-run-prefix p b s gs ws lv bs os lv₀ bs₀ os₀ j k a few h z = prefix-of p b s gs ws lv bs os lv₀ bs₀ os₀ j k a few
+run_prefix p b s gs ws lv bs os lv₀ bs₀ os₀ j k a few h z = prefix-of p b s gs ws lv bs os lv₀ bs₀ os₀ j k a few
     (facts p b s (run_call j (take k gs) (take k ws) lv₀ bs₀ os₀) a h) z

@@ -69,9 +69,9 @@ no_code p b s (clock_call joined given switches) (run_returned number left store
 no_code p b s (run_call joined gs ws lv bs os) (clock_returned number left store out) e h = absurd h
 no_code p b s (run_call joined gs ws lv bs os) (run_returned number left store used finished lv' bs' os') e h = h.number ∙ no_rows p b s _ e
 
-pub refused-reset : (s₀ : List ℕ) (b : Board) → Fails s₀ b → (p s : List ℕ) (c : BoardCall) (a : Returned) → Meets p b s c a
+pub refused_reset : (s₀ : List ℕ) (b : Board) → Fails s₀ b → (p s : List ℕ) (c : BoardCall) (a : Returned) → Meets p b s c a
     → a ≡ as_given b s c (cond (program_ok p) 4 3)
-refused-reset s₀ b f p s c a h =
+refused_reset s₀ b f p s c a h =
     refused-keeps p b s c a h (λ z. not-zero (program_ok p) (sym code ∙ z)) ∙ ap (as_given b s c) code
   where
     code : code_returned a ≡ cond (program_ok p) 4 3

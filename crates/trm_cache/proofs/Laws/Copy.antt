@@ -35,9 +35,9 @@ module _ (G : Geometry) (ln : Line) (s : List ℕ) where
       rw (add-suc G.waits j, le-leb G.waits (G.waits + j) (omega arith), at, writes-words fits wide j (omega arith))
       (paste-suc s (ln.block * G.words) ln.words j 0 (omega arith) (omega arith))
 
-pub write_is-copy : WriteIsCopy
+pub write_is_copy : WriteIsCopy
 unfolding burst copied
-write_is-copy G ln s fits wide = writes-words G ln s fits wide G.words (omega arith)
+write_is_copy G ln s fits wide = writes-words G ln s fits wide G.words (omega arith)
     ∙ append_assoc (take (ln.block * G.words) s) (take G.words ln.words) (drop (ln.block * G.words + G.words) s)
 
 -- refill
@@ -125,6 +125,6 @@ unfolding burst line_at holding
 fill_other_lines G ca l s b h wide fits k n = let w = inside G (length ca.words) l h wide in
     rw (fills-words G ca l s b w fits G.words (omega arith), moved-there G ca l s b w fits G.words (omega arith) k n)
 
-pub fill-marks : FillMarks
+pub fill_marks : FillMarks
 unfolding Kept
-fill-marks G ca l s b = kept G ca l s b (burst G)
+fill_marks G ca l s b = kept G ca l s b (burst G)

@@ -10,7 +10,7 @@ use Rattle.trm_cache.specs.Copy.{writes, fills}
 use Rattle.trm_cache.specs.Steps.{rising, but, rows, AllHold}
 use Rattle.trm_cache.specs.Claims.{StepsHold}
 
-pub steps-hold : StepsHold
+pub steps_hold : StepsHold
 unfolding rows AllHold test same rising but block_of line_of how_many line_at holds line_view view below copy_of write_word fill_word
     count_dirty lowest first_dirty empty_to all_emptied writes fills
-steps-hold = test_true (λ r. r.gives) (λ r. r.expected) AllHold tt (λ r rs p q. (p, q)) rows refl
+steps_hold = test_true (λ r. r.gives) (λ r. r.expected) AllHold tt (λ r rs p q. (p, q)) rows refl

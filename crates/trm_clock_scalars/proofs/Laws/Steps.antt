@@ -25,16 +25,16 @@ use Rattle.trm_clock_scalars.specs.Steps.{Steps, Multiplies, Divides, multiplied
 
 module _ (a b : ℕ) (hb : b < 2 ^ 32) where
   pub mul-first : a < 2 ^ 32 → mul_step a b false ≡ mul_after a b 1
-  mul-first ha = ap (λ (x : ℕ). mul_step x b false) (sym (theorems.mul-starts a b ha hb)) ∙ theorems.mul-steps a b 0 ha hb (omega arith)
+  mul-first ha = ap (λ (x : ℕ). mul_step x b false) (sym (theorems.mul_starts a b ha hb)) ∙ theorems.mul_steps a b 0 ha hb (omega arith)
 
   pub mul_next : (k x : ℕ) → a < 2 ^ 32 → k < 32 → x ≡ mul_after a b k → mul_step x b (eqb k 31) ≡ mul_after a b (k + 1)
-  mul_next k x ha few is = ap (λ (y : ℕ). mul_step y b (eqb k 31)) is ∙ theorems.mul-steps a b k ha hb few
+  mul_next k x ha few is = ap (λ (y : ℕ). mul_step y b (eqb k 31)) is ∙ theorems.mul_steps a b k ha hb few
 
   pub div-first : (d : Divider) → d ≡ divider_at a b 0 → div_step d.rem d.quot a ≡ divider_at a b 1
-  div-first d is = ap (λ (x : Divider). div_step x.rem x.quot a) is ∙ theorems.div-steps a b 0 hb (omega arith)
+  div-first d is = ap (λ (x : Divider). div_step x.rem x.quot a) is ∙ theorems.div_steps a b 0 hb (omega arith)
 
   pub div-next : (k x y : ℕ) → k < 32 → x ≡ div_rem a b k → y ≡ div_quot a b k → div_step x y a ≡ divider_at a b (k + 1)
-  div-next k x y few is also = rw (is, also) (theorems.div-steps a b k hb few)
+  div-next k x y few is also = rw (is, also) (theorems.div_steps a b k hb few)
 
 -- an instruction with steps that is not MUL is DIV
 pub divides_if : (w : ℕ) → is_stepped w ≡ true → operation w ≢ 8 → operation w ≡ 9

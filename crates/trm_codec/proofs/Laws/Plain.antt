@@ -22,8 +22,8 @@ use Rattle.trm_codec.specs.Claims.{PlainDecode, PlainEncode}
 use Rattle.trm_codec.proofs.Laws.Operations.{at-number}
 use Rattle.trm_codec.proofs.Laws.Numbers.{decode-number}
 use Rattle.trm_codec.proofs.Laws.Fields.{decoded-is}
-use Rattle.trm_codec.proofs.Laws.Recode.{decode-encode}
-use Rattle.trm_codec.proofs.Laws.RoundTrip.{passed, encode-decode}
+use Rattle.trm_codec.proofs.Laws.Recode.{decode_encode}
+use Rattle.trm_codec.proofs.Laws.RoundTrip.{passed, encode_decode}
 
 -- the instruction of the fields of i is i
 of_fields : (i : Instruction) → instruction_at (fields_of i) ≡ i
@@ -78,15 +78,15 @@ given w i e =
     let z : word_refusal w ≡ 0 = sym (decode-number w) ∙ ap decode_number e in
     (z, rw (z, decoded-is w i e))
 
-pub plain-decode : PlainDecode
+pub plain_decode : PlainDecode
 unfolding fields_refusal fields_fit word_given encode_of
-plain-decode f e =
+plain_decode f e =
     let t = (and-eq-true_iff _ _).0 (accepted (fields_fit f) e) in
     let same : f ≡ fields_of (instruction_at f) = same-is f (fields_of (instruction_at f)) t.0 in
     let word : word_given f ≡ placed (instruction_at f) = rw (accepted (fields_fit f) e) in
     let encoded : encode_of (instruction_at f) ≡ E.Word (placed (instruction_at f)) =
     ap (λ ok. encoded_as ok (placed (instruction_at f))) t.1 in
-    let g = given (placed (instruction_at f)) (instruction_at f) (encode-decode (instruction_at f) _ encoded) in
+    let g = given (placed (instruction_at f)) (instruction_at f) (encode_decode (instruction_at f) _ encoded) in
     (ap word_refusal word ∙ g.0, ap fields_given word ∙ g.1 ∙ sym same)
 
 -- the fields of an instruction that encodes are accepted, and give its word
@@ -96,9 +96,9 @@ gives i w e =
     let p = passed (fits i) (placed i) w e in
     (rw (of_fields i, same_self (fields_of i), p.0), rw (of_fields i, same_self (fields_of i), p.0) (sym p.1))
 
-pub plain-encode : PlainEncode
-plain-encode w l =
-    let r = decode-encode w l in
+pub plain_encode : PlainEncode
+plain_encode w l =
+    let r = decode_encode w l in
     let g = (given w r.instruction r.decoded).1 in
     let h = gives r.instruction (unused_zero w) r.encoded in
     (ap fields_refusal g ∙ h.0, ap word_given g ∙ h.1)

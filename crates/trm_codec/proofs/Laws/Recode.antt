@@ -147,8 +147,8 @@ module _ (w : ℕ) where
       go true e = rw e (arithmetic_recodes (ltb-true _ _ e))
       go false e = rw e (other_recodes (operation w - 11) (above _ (ltb-false _ _ e)))
 
-pub decode-encode : (w : ℕ) → w < 2 ^ 18 → Recodes w
+pub decode_encode : (w : ℕ) → w < 2 ^ 18 → Recodes w
 unfolding decode_of
-decode-encode w h =
+decode_encode w h =
     let l : w ≤ 0x3FFFF = omega arith in
     record { instruction = instruction_of w; decoded = rw (le-ltb 0x3FFFF w l); encoded = recodes w }

@@ -143,9 +143,9 @@ call-form x w hx e =
     let ex : call_offset w ≡ x = lowest 60 x 4096 w (omega arith) hx in
     rw (eo, ex)
 
-pub encode-decode : (i : Instruction) (w : ℕ) → encode_of i ≡ E.Word w → decode_of w ≡ D.Instruction i
+pub encode_decode : (i : Instruction) (w : ℕ) → encode_of i ≡ E.Word w → decode_of w ≡ D.Instruction i
 unfolding encode_of
-encode-decode (Arithmetic o d (Register s)) w h =
+encode_decode (Arithmetic o d (Register s)) w h =
     let p = passed _ _ w h in
     let f = (and-eq-true_iff _ _).0 p.0 in
     let hd = ltb-true _ _ f.0 in
@@ -154,7 +154,7 @@ encode-decode (Arithmetic o d (Register s)) w h =
     let ho = number_lt o in
     decoded w _ (omega arith)
     (register-form (number_of o) d s w ho hd hs e ∙ ap (λ (x : Operation). Arithmetic x d (Register s)) (at-number o))
-encode-decode (Arithmetic o d (Literal n)) w h =
+encode_decode (Arithmetic o d (Literal n)) w h =
     let p = passed _ _ w h in
     let f = (and-eq-true_iff _ _).0 p.0 in
     let hd = ltb-true _ _ f.0 in
@@ -163,34 +163,34 @@ encode-decode (Arithmetic o d (Literal n)) w h =
     let ho = number_lt o in
     decoded w _ (omega arith)
     (literal-form (number_of o) d n w ho hd hn e ∙ ap (λ (x : Operation). Arithmetic x d (Literal n)) (at-number o))
-encode-decode (MoveHigh d) w h =
+encode_decode (MoveHigh d) w h =
     let p = passed _ _ w h in
     let hd = ltb-true _ _ p.0 in
     let e = p.1 in
     decoded w _ (omega arith) (high-form d w hd e)
-encode-decode (SetStatus x) w h =
+encode_decode (SetStatus x) w h =
     let p = passed _ _ w h in
     let hx = ltb-true _ _ p.0 in
     let e = p.1 in
     decoded w _ (omega arith) (status-form x w hx e)
-encode-decode (Jump s) w h =
+encode_decode (Jump s) w h =
     let p = passed _ _ w h in
     let hs = ltb-true _ _ p.0 in
     let e = p.1 in
     decoded w _ (omega arith) (jump-form s w hs e)
-encode-decode (JumpAndLink d s) w h =
+encode_decode (JumpAndLink d s) w h =
     let p = passed _ _ w h in
     let f = (and-eq-true_iff _ _).0 p.0 in
     let hd = ltb-true _ _ f.0 in
     let hs = ltb-true _ _ f.1 in
     let e = p.1 in
     decoded w _ (omega arith) (link-form d s w hd hs e)
-encode-decode (ReturnFromInterrupt s) w h =
+encode_decode (ReturnFromInterrupt s) w h =
     let p = passed _ _ w h in
     let hs = ltb-true _ _ p.0 in
     let e = p.1 in
     decoded w _ (omega arith) (return-form s w hs e)
-encode-decode (Load d s x) w h =
+encode_decode (Load d s x) w h =
     let p = passed _ _ w h in
     let f = (and-eq-true_iff _ _).0 p.0 in
     let g = (and-eq-true_iff _ _).0 f.1 in
@@ -199,7 +199,7 @@ encode-decode (Load d s x) w h =
     let hx = ltb-true _ _ g.1 in
     let e = p.1 in
     decoded w _ (omega arith) (load-form d s x w (memory-fields 12 d s x w (lit< tt) hd hs hx e))
-encode-decode (Store d s x) w h =
+encode_decode (Store d s x) w h =
     let p = passed _ _ w h in
     let f = (and-eq-true_iff _ _).0 p.0 in
     let g = (and-eq-true_iff _ _).0 f.1 in
@@ -208,14 +208,14 @@ encode-decode (Store d s x) w h =
     let hx = ltb-true _ _ g.1 in
     let e = p.1 in
     decoded w _ (omega arith) (store-form d s x w (memory-fields 13 d s x w (lit< tt) hd hs hx e))
-encode-decode (Branch k x) w h =
+encode_decode (Branch k x) w h =
     let p = passed _ _ w h in
     let f = (and-eq-true_iff _ _).0 p.0 in
     let hk = ltb-true _ _ f.0 in
     let hx = ltb-true _ _ f.1 in
     let e = p.1 in
     decoded w _ (omega arith) (branch-form k x w hk hx e)
-encode-decode (Call x) w h =
+encode_decode (Call x) w h =
     let p = passed _ _ w h in
     let hx = ltb-true _ _ p.0 in
     let e = p.1 in

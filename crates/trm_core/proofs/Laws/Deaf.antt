@@ -97,9 +97,9 @@ pub clocks_are_three : ClocksAreThree
 unfolding clock_of unheld acknowledges
 clocks_are_three G p x pins = record { held = λ s. rw s; takes = λ s t. rw (s, t); works = λ s t. rw (s, t) }
 
-pub held-waits : HeldWaits
+pub held_waits : HeldWaits
 unfolding held_clock
-held-waits G p x pins st =
+held_waits G p x pins st =
     rw ((clocks_are_three G p x pins).held st)
     (record {
       visible = refl;

@@ -70,9 +70,9 @@ module _ (G : Geometry) where
     dirty_mark = λ k h. rw (get_or-replicate {A = ℕ} G.lines k 0 0 h) (omega arith);
   }
 
-  pub reset-kept : (p s : List ℕ) → geometry_ok G ≡ true → reset_refusal s ≡ 0 → Kept G p (start G s)
+  pub reset_kept : (p s : List ℕ) → geometry_ok G ≡ true → reset_refusal s ≡ 0 → Kept G p (start G s)
   unfolding reset_of store_ok first zeros
-  reset-kept p s e r = record {
+  reset_kept p s e r = record {
     shaped = record {
       regs = omega arith;
       full = first-wide.full;

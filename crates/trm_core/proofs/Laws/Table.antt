@@ -201,9 +201,9 @@ left_after_lem : (G : Geometry) (p : List ℕ) (n : ℕ) (m : Machine) (r : Runn
 unfolding to_come
 left_after_lem G p n m r ca s a b len = ap (λ k. left_of G (word_at p m.scalars.pc) k r (visible_of m) ca) len
 
-pub clock-table : ClockTable
+pub clock_table : ClockTable
 unfolding to_come
-clock-table G p x pins g sh free st ac = record {
+clock_table G p x pins g sh free st ac = record {
   carries = ap (λ y. y.out.done) works ∙ worked-done G w n m s pins.input ∙ ap flag last;
   silence = λ more. ap (λ y. y.out) (works ∙ worked-on G w n m s pins.input (last ∙ ne_eqb left 1 more));
   lowers = λ more. let o = on more in

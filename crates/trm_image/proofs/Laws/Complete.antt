@@ -124,16 +124,16 @@ module _ (n : ℕ) (legal : store_length_ok n ≡ true) (s : List ℕ) (small : 
       all_read (omega (arith, w)) I.program I.first I.runs
       (head_read I.program I.first rest I.runs ok h (more h.after))
 
-pub written-accepted : WrittenAccepted
+pub written_accepted : WrittenAccepted
 unfolding image_bytes
-written-accepted n true I store m none small =
+written_accepted n true I store m none small =
     let A = record_bytes 1 (word_bytes I.program) in
     let B = record_bytes 2 (word_bytes I.first) in
     let s = image_bytes true I in
     read_back n store s small I (B ++ run_bytes I.runs) m.program
     (append_assoc A B (run_bytes I.runs))
     (λ e. second-read n store s small I.first I.runs (6 + length_at s 0) m.first m.words m.runs e)
-written-accepted n false I store m none small =
+written_accepted n false I store m none small =
     let A = record_bytes 1 (word_bytes I.program) in
     let s = image_bytes false I in
     read_back n store s small I (run_bytes I.runs) m.program

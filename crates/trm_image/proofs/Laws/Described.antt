@@ -79,8 +79,8 @@ module _ (n : ℕ) (s : List ℕ) (small : all_at_most 255 s ≡ true) (h : Head
         runs = ap runs_ok x.list ∙ (second-left x).ok;
       }
 
-pub accepted-described : AcceptedDescribed
-accepted-described n s small e = go (accepted-head n s e) (ℕ_discrete (kind_at s (6 + length_at s 0)) 2)
+pub accepted_described : AcceptedDescribed
+accepted_described n s small e = go (accepted-head n s e) (ℕ_discrete (kind_at s (6 + length_at s 0)) 2)
   where
     go : Head n s → Dec (kind_at s (6 + length_at s 0) ≡ 2) → Described n s
     go h (yes k) =

@@ -101,6 +101,6 @@ module _ (n : ℕ) (s : List ℕ) where
   why-small true e f q z = too_long (ltb-true 65536 (length s) e) (sym (ap (λ r. r.number) q)) (sym (ap (λ r. r.at) q))
   why-small false e f q z = why-some (ltb-false 65536 (length s) e) (eqb (length s) 0) refl f q z
 
-pub refused-first : RefusedFirst
+pub refused_first : RefusedFirst
 unfolding image_fault
-refused-first n s z = why-small n s (ltb 65536 (length s)) refl (image_fault n s) refl z
+refused_first n s z = why-small n s (ltb 65536 (length s)) refl (image_fault n s) refl z

@@ -37,7 +37,7 @@ use Rattle.trm_listing.specs.Listing.{pins_of_runs, first_store, start_of, rows_
 use Rattle.trm_listing.specs.Examples.{paper_example, interrupt_example, cache_example, refused_example, examples}
 use Rattle.trm_listing.specs.Examples.{AllListed, ExamplesHold}
 
-pub examples-hold : ExamplesHold
+pub examples_hold : ExamplesHold
 unfolding test same store_length_ok signed word product low_word high_word partial_product mul_after above0 floor_div floor_mod quotient
     remainder taken div_rem div_quot exact_sum exact_difference sum difference ror short_result result_of high_of too_wide
     carry_of_add carry_of_sub overflow_of_add overflow_of_sub sign_flag zero_flag carry_after overflow_after flags_after flags_of burst block_of
@@ -52,4 +52,4 @@ unfolding test same store_length_ok signed word product low_word high_word parti
     places decimal hex shown_bytes row_bytes rows_bytes end_bytes refused_bytes interrupt_at carries_out row_of took_after rows_from
     end_row pins_of_runs first_store start_of rows_of final_of listing_of output_of paper_example interrupt_example cache_example
     refused_example examples AllListed
-examples-hold = test_true (λ e. output_of e.image) (λ e. e.listing) AllListed tt (λ e es p q. (p, q)) examples refl
+examples_hold = test_true (λ e. output_of e.image) (λ e. e.listing) AllListed tt (λ e es p q. (p, q)) examples refl

@@ -16,7 +16,7 @@ use Rattle.trm_core.specs.Clock.{clock_of}
 use Rattle.trm_core.specs.Claims.{Kept}
 use Rattle.trm_core.specs.Refusals.{reset_refusal}
 use Rattle.trm_clock_laws.proofs.Laws.Facts.{paper_ok}
-use Rattle.trm_core.proofs.Laws.Reset.{reset-kept}
+use Rattle.trm_core.proofs.Laws.Reset.{reset_kept}
 use Rattle.trm_image.specs.Records.{length_at, payload_at, words_at, begins}
 use Rattle.trm_image.specs.Refused.{image_fault}
 use Rattle.trm_image.specs.Meaning.{Image, image_of, runs_in}
@@ -72,9 +72,9 @@ module _ (s : List ℕ) where
 
   -- the image is accepted
   module _ (ok : (image_fault 2048 s).number ≡ 0) where
-    pub program-is : (n : ℕ) (program : List ℕ) → n ≡ length_at s 0 / 4 → program ≡ words_at s 6 n ++ replicate (4096 - n) 0
+    pub program_is : (n : ℕ) (program : List ℕ) → n ≡ length_at s 0 / 4 → program ≡ words_at s 6 n ++ replicate (4096 - n) 0
         → take n program ≡ (image_of s).program
-    program-is n program e f =
+    program_is n program e f =
         ap (take n) f ∙ take_at (words_at s 6 n) (replicate (4096 - n) 0) n (length-words_at s 6 n)
         ∙ ap (words_at s 6) e ∙ sym (accepted-head 2048 s ok).is
 
@@ -124,7 +124,7 @@ module _ (s : List ℕ) where
           let legal : reset_refusal st ≡ 0 = rw (long, h.store) in
           let k : Kept paper_geometry p (record { machine = m; store = st }) =
           subst (λ y. Kept paper_geometry p (record { machine = y; store = st })) (sym reset)
-          (reset-kept paper_geometry p st paper_ok legal) in
+          (reset_kept paper_geometry p st paper_ok legal) in
           let none : m.scalars.counts.clocks ≡ 0 = ap (λ (y : core.Machine). y.scalars.counts.clocks) reset ∙ reset-clocks st in
           record {
             able = record {

@@ -34,11 +34,11 @@ not-below a b = go (ltb a b) refl
     go true t = sym (lt-leb b a (ltb-true a b t))
     go false t = sym (le-leb b a (ltb-false a b t))
 
-pub compares-addresses
+pub compares_addresses
     : (w u : ℕ) (v : Visible) (x : ℕ) → operation w ≡ 3 → operand_a w v < 2 ^ 32 → operand_b w v < 2 ^ 32
     → (condition u ≡ 8 → branch_taken u (execute w v x) ≡ ltb (operand_a w v) (operand_b w v))
     × (condition u ≡ 9 → branch_taken u (execute w v x) ≡ leb (operand_b w v) (operand_a w v))
-compares-addresses w u v x op ha hb = (higher, lower-or_same)
+compares_addresses w u v x op ha hb = (higher, lower-or_same)
   where
     a : ℕ
     a = operand_a w v

@@ -83,26 +83,26 @@ passed =
       stalls-passes = refl;
     }
 
-pub starred-hold : AllHold starred
-starred-hold = passes-holds starred passed.starred-passes
+pub starred_hold : AllHold starred
+starred_hold = passes-holds starred passed.starred-passes
 
-pub clock_table-holds : AllHold clock_table
-clock_table-holds = passes-holds clock_table passed.clock_table-passes
+pub clock_table_holds : AllHold clock_table
+clock_table_holds = passes-holds clock_table passed.clock_table-passes
 
-pub executed-hold : AllHold executed
-executed-hold = passes-holds executed passed.executed-passes
+pub executed_hold : AllHold executed
+executed_hold = passes-holds executed passed.executed-passes
 
-pub comparisons-hold : AllHold comparisons
-comparisons-hold = passes-holds comparisons passed.comparisons-passes
+pub comparisons_hold : AllHold comparisons
+comparisons_hold = passes-holds comparisons passed.comparisons-passes
 
-pub accesses-hold : AllHold accesses
-accesses-hold = passes-holds accesses passed.accesses-passes
+pub accesses_hold : AllHold accesses
+accesses_hold = passes-holds accesses passed.accesses-passes
 
-pub interrupts-hold : AllHold interrupts
-interrupts-hold = passes-holds interrupts passed.interrupts-passes
+pub interrupts_hold : AllHold interrupts
+interrupts_hold = passes-holds interrupts passed.interrupts-passes
 
-pub histories-hold : AllHold histories
-histories-hold = passes-holds histories passed.histories-passes
+pub histories_hold : AllHold histories
+histories_hold = passes-holds histories passed.histories-passes
 
-pub stalls-hold : AllHold stalls
-stalls-hold = passes-holds stalls passed.stalls-passes
+pub stalls_hold : AllHold stalls
+stalls_hold = passes-holds stalls passed.stalls-passes

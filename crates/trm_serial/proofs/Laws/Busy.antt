@@ -168,8 +168,8 @@ module _ (T : Timing) where
       let s = h.left in let k : frame T - e.left ≡ n = omega arith in
       rw (busy-is e (λ z. absurd (omega arith)), k) (ap (λ x. get_or (levels x) (n / T.period) 1) h.sent)
 
-  pub busy-holds : (is : List Given) → Busy T is
-  busy-holds is = record { during = during; only = only; bits = bits; high = high }
+  pub busy_holds : (is : List Given) → Busy T is
+  busy_holds is = record { during = during; only = only; bits = bits; high = high }
     where
       e : Serial
       e = heard_end T serial_reset is

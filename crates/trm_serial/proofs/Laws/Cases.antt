@@ -20,4 +20,4 @@ paper = refl
 pub echoes : Echoes
 unfolding heard heard_end fed each wrote_to accepted_at read_of is_set handed_at fate_of fate_at on_line read_mark marks_at in_time
     level busy left_after sent_after ready_after waits stops samples gathered listened serial_clock frame stop_sample
-echoes = record { proviso = refl; accepted = refl; handed-over = refl; line = refl; broken = refl; lost = refl }
+echoes = record { proviso = refl; accepted = refl; handed_over = refl; line = refl; broken = refl; lost = refl }

@@ -35,7 +35,7 @@ loop-again c =
       omega arith,
       c.step.ensures
           ∙ ap (λ (d : Divider). div_step d.rem d.quot s.args.a) e
-          ∙ theorems.div-steps s.args.a s.args.b l.k s.ranges.b.fits (omega arith),
+          ∙ theorems.div_steps s.args.a s.args.b l.k s.ranges.b.fits (omega arith),
     )
 
 finish-requires : tie.Need-finish-requires invariant-loop decreases-loop

@@ -6,7 +6,7 @@ use Rattle.trm_clock_execute.proofs.inner.execute.outcome_of.Goals as goal
 
 pub returns-then-op-eq8 : goal.returns-then-op-eq8
 unfolding result_of high_of
-returns-then-op-eq8 c = λ h. let ends = theorems.mul-ends c.args.a c.args.b in
+returns-then-op-eq8 c = λ h. let ends = theorems.mul_ends c.args.a c.args.b in
     rw (eq-eqb _ _ c.if-op-eq8.true, c.requires.0 c.if-op-eq8.true, ends.0, ends.1)
 
 pub finish-d-requires : goal.finish-d-requires

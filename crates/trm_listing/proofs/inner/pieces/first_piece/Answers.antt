@@ -10,7 +10,7 @@ use Rattle.trm_image.specs.Refused.{image_fault}
 use Rattle.trm_image.proofs.Laws.Accepted.{accepted-head}
 use Rattle.trm_listing.specs.Rest.{pins_left}
 use Rattle.trm_listing.specs.Pieces.{rest_of}
-use Rattle.trm_listing.proofs.Laws.Whole.{output-refused, program-is, program-array, program-whole}
+use Rattle.trm_listing.proofs.Laws.Whole.{output-refused, program_is, program-array, program-whole}
 use Rattle.trm_listing.proofs.Laws.Whole.{part-long, program-read, taken, output-begun, begun-stands}
 use Rattle.trm_listing.proofs.inner.pieces.first_piece.Goals as goal
 
@@ -37,7 +37,7 @@ returns-then-not-accepted c =
         c.requires.2,
       );
       words = omega arith;
-      program-is = rw refused;
+      program_is = rw refused;
       store_is = rw refused;
       programmed = c.requires.0;
       stored = c.requires.1;
@@ -86,7 +86,7 @@ returns c =
     let l = part-long image ok _ part in
     let n = ap (λ k. k / 4) l in
     let read = program-read image ok _ part _ _ c.requires.0 c.load_words.ensures in
-    let is = program-is image ok _ _ n read in
+    let is = program_is image ok _ _ n read in
     let ld = c.load_store-at.ensures in
     let program-long = program-whole image ok _ _ n read in
     let h = accepted-head 2048 _ ok in
@@ -96,7 +96,7 @@ returns c =
       ready = λ _. begun-stands _ ok _ is _ _ c.zero_record-machine.ensures _ ld ld.long;
       fits = omega (arith, c.put_header-len.ensures.1, c.put_header-len.ensures.0.long, c.requires.2);
       words = omega (arith, l, h.long, program-long);
-      program-is = program-array image ok _ _ _ n read;
+      program_is = program-array image ok _ _ _ n read;
       store_is = taken _ _ _ _ ok ld.store;
       programmed = program-long;
       stored = ld.long;
