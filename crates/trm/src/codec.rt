@@ -7,16 +7,14 @@ use trm_codec::plain_codec::{PlainDecoded, PlainEncoded};
 use trm_codec::plain_fields::Fields;
 
 // The instruction that a word encodes; 3 for a word above 3FFFFH.
-#[unsafe(no_mangle)]
-pub extern "C" fn trm_decode(word: u32) -> PlainDecoded
+pub fn trm_decode(word: u32) -> PlainDecoded
     ensures { DecodesPlain word result }
 {
     trm_codec::plain_codec::decode_fields(word)
 }
 
 // The word of an instruction, its unused bits zero; 10 if a field is outside its width.
-#[unsafe(no_mangle)]
-pub extern "C" fn trm_encode(f: Fields) -> PlainEncoded
+pub fn trm_encode(f: Fields) -> PlainEncoded
     ensures { EncodesPlain f result }
 {
     trm_codec::plain_codec::encode_fields(f)

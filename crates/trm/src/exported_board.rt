@@ -35,8 +35,7 @@ pub struct BoardRunAnswer {
 }
 
 // The board after a reset, for this store.
-#[unsafe(no_mangle)]
-pub extern "C" fn trm_board_reset(store: &[u32]) -> BoardResetAnswer
+pub fn trm_board_reset(store: &[u32]) -> BoardResetAnswer
     ensures { BoardResetNumbered store.now result }
 {
     let r = trm_board_calls::board_calls::reset(store);
@@ -49,8 +48,7 @@ pub extern "C" fn trm_board_reset(store: &[u32]) -> BoardResetAnswer
 }
 
 // One clock: `given` has the serial line in bit 0, interrupt 1 in bit 1 and stall in bit 2.
-#[unsafe(no_mangle)]
-pub extern "C" fn trm_board_clock(
+pub fn trm_board_clock(
     b: Board,
     program: &[u32],
     store: &mut [u32],
@@ -73,8 +71,7 @@ pub extern "C" fn trm_board_clock(
 }
 
 // One clock with the line joined to itself.
-#[unsafe(no_mangle)]
-pub extern "C" fn trm_board_clock_joined(
+pub fn trm_board_clock_joined(
     b: Board,
     program: &[u32],
     store: &mut [u32],
@@ -97,8 +94,7 @@ pub extern "C" fn trm_board_clock_joined(
 }
 
 // One clock for each byte of `given`.
-#[unsafe(no_mangle)]
-pub extern "C" fn trm_board_run(
+pub fn trm_board_run(
     b: Board,
     program: &[u32],
     store: &mut [u32],
@@ -126,8 +122,7 @@ pub extern "C" fn trm_board_run(
 }
 
 // One clock for each byte of `given`, with the line joined to itself.
-#[unsafe(no_mangle)]
-pub extern "C" fn trm_board_run_joined(
+pub fn trm_board_run_joined(
     b: Board,
     program: &[u32],
     store: &mut [u32],

@@ -9,8 +9,7 @@ use trm_core::sighting::Sighting;
 use trm_run_machine::machine::Machine;
 
 // The record after a reset, for this store.
-#[unsafe(no_mangle)]
-pub extern "C" fn trm_reset(store: &[u32]) -> ResetAnswer
+pub fn trm_reset(store: &[u32]) -> ResetAnswer
     ensures { ResetNumbered store.now result }
 {
     let r = trm_calls::machine_calls::reset(store);
@@ -23,8 +22,7 @@ pub extern "C" fn trm_reset(store: &[u32]) -> ResetAnswer
 }
 
 // One clock, with the record by value.
-#[unsafe(no_mangle)]
-pub extern "C" fn trm_clock_value(
+pub fn trm_clock_value(
     m: Machine,
     program: &[u32],
     store: &mut [u32],
@@ -46,8 +44,7 @@ pub extern "C" fn trm_clock_value(
 }
 
 // One clock for each line byte.
-#[unsafe(no_mangle)]
-pub extern "C" fn trm_run(
+pub fn trm_run(
     m: Machine,
     program: &[u32],
     store: &mut [u32],
@@ -71,8 +68,7 @@ pub extern "C" fn trm_run(
 }
 
 // One word of data memory, as seen through the cache.
-#[unsafe(no_mangle)]
-pub extern "C" fn trm_look(m: Machine, program: &[u32], store: &[u32], address: u32) -> LookAnswer
+pub fn trm_look(m: Machine, program: &[u32], store: &[u32], address: u32) -> LookAnswer
     ensures { LookNumbered m program.now store.now address result }
 {
     let r = trm_call_inspect::inspect_calls::look(m, program, store, address);
@@ -84,8 +80,7 @@ pub extern "C" fn trm_look(m: Machine, program: &[u32], store: &[u32], address: 
 }
 
 // All of data memory, as seen through the cache; returns only the refusal number.
-#[unsafe(no_mangle)]
-pub extern "C" fn trm_copy(m: Machine, program: &[u32], store: &[u32], buffer: &mut [u32]) -> u32
+pub fn trm_copy(m: Machine, program: &[u32], store: &[u32], buffer: &mut [u32]) -> u32
     ensures { CopyNumbered m program.now store.now buffer.old result buffer.new }
 {
     let refused = trm_call_inspect::inspect_calls::copy(m, program, store, buffer);
@@ -93,8 +88,7 @@ pub extern "C" fn trm_copy(m: Machine, program: &[u32], store: &[u32], buffer: &
 }
 
 // A clock whose answer byte shows a write to the device, if there is one.
-#[unsafe(no_mangle)]
-pub extern "C" fn trm_watch(bytes: &[u8], device: u32) -> WatchAnswer
+pub fn trm_watch(bytes: &[u8], device: u32) -> WatchAnswer
     ensures { WatchNumbered bytes.now device result }
 {
     let r = trm_call_inspect::inspect_calls::watch(bytes, device);

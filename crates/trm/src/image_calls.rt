@@ -15,8 +15,7 @@ pub struct ImageAnswer {
 }
 
 // Checks a whole image for a store of `words` words.
-#[unsafe(no_mangle)]
-pub extern "C" fn trm_image_check(image: &[u8], words: usize) -> ImageAnswer
+pub fn trm_image_check(image: &[u8], words: usize) -> ImageAnswer
     ensures { ImageNumbered words image.now result }
 {
     let r = reader::check(image, words);
@@ -37,8 +36,7 @@ pub struct PartAnswer {
 }
 
 // The payload of the record that begins at this offset.
-#[unsafe(no_mangle)]
-pub extern "C" fn trm_image_payload(image: &[u8], at: usize) -> PartAnswer
+pub fn trm_image_payload(image: &[u8], at: usize) -> PartAnswer
     ensures { PayloadPart image.now at result }
 {
     let fault = reader::payload_fault(image, at);

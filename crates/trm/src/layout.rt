@@ -4,22 +4,19 @@
 ghost use Rattle.std.specs.Prelude.{◌≡◌};
 ghost use Rattle.trm.specs.Layout.{record_size, board_size, record_version};
 
-#[unsafe(no_mangle)]
-pub extern "C" fn trm_record_size() -> usize
+pub fn trm_record_size() -> usize
     ensures { result ≡ record_size }
 {
     768
 }
 
-#[unsafe(no_mangle)]
-pub extern "C" fn trm_board_size() -> usize
+pub fn trm_board_size() -> usize
     ensures { result ≡ board_size }
 {
     832
 }
 
-#[unsafe(no_mangle)]
-pub extern "C" fn trm_record_version() -> u32
+pub fn trm_record_version() -> u32
     ensures { result ≡ record_version }
 {
     3

@@ -7,8 +7,7 @@ use crate::exported_answers::LentAnswer;
 use trm_run_machine::machine::Machine;
 
 // One clock, in place.
-#[unsafe(no_mangle)]
-pub extern "C" fn trm_clock(
+pub fn trm_clock(
     m: &mut Machine,
     program: &[u32],
     store: &mut [u32],
