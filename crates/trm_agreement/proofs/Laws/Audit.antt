@@ -1,6 +1,6 @@
 -- The log of the reference machine passes the audit: every entry is audited, the book is balanced after it, and its devices are listed.
 -- Idea: one clock keeps the book; then the list of clocks, and the list of calls; the rest follows from an audited log.
---   plain-machine   the plain machine over any clocks        of-log   any log that equals the reference machine's
+--   plain_machine   the plain machine over any clocks        of-log   any log that equals the reference machine's
 use Prim.Native.Nat.{ℕ, suc, ◌<◌}
 use mathlib.Core.Path.{◌≡◌, refl, sym, ap, ap₂, ◌∙◌, subst}
 use mathlib.Core.Logic.{◌≢◌}

@@ -2,7 +2,7 @@
 -- Idea: by cases of the kind of the word, whose charge says how many clocks are left of a burst; then arithmetic.
 --   idle-fills, idle-writes   none with no clock spent       spent-fills, spent-writes   one more clock is spent
 --   done-fills, done-writes   all but the last clock spent   joined-fills, joined-writes   what joins the history
---   refill-adds, writeback-adds   what the reference machine counts in a clock
+--   refill-adds, writeback_adds   what the reference machine counts in a clock
 use Prim.Native.Nat.{ℕ, suc, ◌+◌, ◌-◌, ◌*◌, ◌/◌, ◌%◌, ◌<◌}
 use mathlib.Core.Path.{◌≡◌, refl}
 use mathlib.Core.Logic.{◌≢◌}

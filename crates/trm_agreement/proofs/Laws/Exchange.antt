@@ -1,6 +1,6 @@
 -- The returns of the calls have the log of the definitions, and so that of the reference machine; prefixes of runs; refused calls.
 -- Idea: the contract of a call gives its clocks, what it returns and what it leaves; the whole log by induction; then `same_log`.
---   exchange-holds    run-prefix    refused-keeps
+--   exchange-holds    run_prefix    refused-keeps
 use Prim.Native.Nat.{ℕ, ◌≤◌}
 use mathlib.Core.Path.{◌≡◌, refl, sym, ap, ap₂, ◌∙◌}
 use mathlib.Core.Logic.{◌≢◌}

@@ -1,7 +1,7 @@
 -- Numbers mod a power of two: shifts to the left, and differences that wrap.
 -- 2^n is 2^i × 2^j for i + j = n, so a left shift by j mod 2^n is the remainder mod 2^i, shifted by j.
---   pow-split, mul-pow-next   a power as a product       sub-wrapped   the value of a wrapping difference
---   shl-mod, parts-lt         the value of a shift, and a bound with a number below 2^j added
+--   pow-split, mul_pow_next   a power as a product       sub-wrapped   the value of a wrapping difference
+--   shl_mod, parts-lt         the value of a shift, and a bound with a number below 2^j added
 --   shl-next                  the value of a shift of one bit more
 use Rattle.std.proofs.Common.{◌≡◌, ℕ, ◌+◌, ◌-◌, ◌*◌, ◌/◌, ◌%◌, ◌^◌, ◌<◌, ◌≤◌, sym, ap, ◌∙◌, subst, add-zero, mod-lt, mod-eq_of_lt, mul_assoc, add-mul, arith, pow_pos, pow-add}
 use native.Mathlib.Nat.{mod-add-mod, add-mod_right, mul-mod_left}

@@ -1,7 +1,7 @@
 -- The exact sum and difference of two signed words, plus 2^32: their 32-bit results and their flags.
 -- By cases of the signs the offset number is a sum of naturals; overflow is a quotient of it by 2^32, carry one of the words' own sum.
---   off-sum, off-exact-difference   the offset numbers        sum_is, difference-is   the results
---   quotient-flag, overflow-is      the flags                 carry-out, carry-no-borrow   a result with its carry
+--   off-sum, off-exact_difference   the offset numbers        sum_is, difference-is   the results
+--   quotient-flag, overflow-is      the flags                 carry-out, carry-no_borrow   a result with its carry
 --   difference-zero                 Z of SUB
 use Rattle.std.proofs.Common.{◌≡◌, ℕ, zero, suc, ◌+◌, ◌-◌, ◌*◌, ◌/◌, ◌%◌, ◌^◌, ◌<◌, ◌≤◌, Bool, true, false, eqb, leb, ◌⊎◌, ℤ, pos, negsuc, ◌+ℤ◌, ◌-ℤ◌, neg_ℤ, sym, refl, ap, ◌∙◌, inl, inr, add-zero, arith, leb-false, leb-true}
 use native.Mathlib.Nat.{add-mod}

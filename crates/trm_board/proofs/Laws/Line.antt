@@ -1,7 +1,7 @@
 -- The serial part of a board follows the serial line of its core's accesses, and what its turns show is what happens on that line.
 -- Idea: clock by clock, the answer byte gives the access, and the word of a read is the byte that the board replied.
---   givens T ts    the line and the access of each turn        serial-end    each_turn    given-joined
---   accepted-turn, handed-turn, received-turn, marks-turn, fates-turn    what a turn shows is what happens in its moment
+--   givens T ts    the line and the access of each turn        serial_end    each_turn    given-joined
+--   accepted-turn, handed-turn, received-turn, marks-turn, fates_turn    what a turn shows is what happens in its moment
 use Prim.Native.Nat.{ℕ, ◌+◌, ◌*◌, ◌/◌, ◌%◌, ◌≤◌}
 use mathlib.Core.Path.{◌≡◌, refl, sym, ap, ap₂, subst, ◌∙◌}
 use mathlib.Core.Bool.{Bool, true, false, cond, not, ◌&&◌}

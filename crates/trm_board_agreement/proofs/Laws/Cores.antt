@@ -1,6 +1,6 @@
 -- The core's part of a log of board calls: the plain machine's clocks on what the log shows that it was fed.
 -- Idea: the plain machine's answer byte does not depend on its input word, so the log shows which device it reads; then clock by clock.
---   cores-calls
+--   cores_calls
 use Prim.Native.Nat.{ℕ, ◌+◌, ◌*◌, ◌-◌}
 use mathlib.Core.Path.{◌≡◌, refl, sym, ap, ap₂, ◌∙◌}
 use mathlib.Core.Bool.{Bool, true, false, cond}

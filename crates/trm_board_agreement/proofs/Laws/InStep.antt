@@ -1,6 +1,6 @@
 -- Two cores in step make two boards in step, so every list of calls gives the same log.
 -- Idea: the cores are fed the same, since their answer bytes and clock counts agree; then so do the devices.
---   InStep p n x y    in step, with room for n more clocks        same-board-log
+--   InStep p n x y    in step, with room for n more clocks        same_board_log
 use Prim.Native.Nat.{ℕ, suc, ◌+◌, ◌≤◌}
 use mathlib.Core.Path.{◌≡◌, refl, sym, ap, ap₂, subst, ◌∙◌}
 use mathlib.Core.Bool.{Bool, true, false, cond, not}

@@ -1,6 +1,6 @@
 -- No call of the board with the plain machine inside returns 5.
 -- Idea: its numbers are those of rows 3, 6, 7 and 8.
---   returns-not-five
+--   returns_not_five
 use Prim.Native.Nat.{ℕ, ◌+◌}
 use mathlib.Core.Path.{◌≡◌, refl, sym}
 use mathlib.Core.Logic.{◌≢◌}

@@ -1,6 +1,6 @@
 -- A run of the first k bytes of a run, if it is not refused, returns the first k clocks of that run.
 -- Idea: the contract gives its clock history, and the history of the first k inputs is the first k of the history.
---   run-prefix
+--   run_prefix
 use Prim.Native.Nat.{ℕ, zero, suc, ◌≤◌}
 use mathlib.Core.Path.{◌≡◌, refl, sym, ap, ap₂, ◌∙◌}
 use mathlib.Core.Bool.{Bool}

@@ -1,6 +1,6 @@
 -- A refused call returns its number and everything else as it was given; after a refused reset every call is refused.
 -- Idea: by the contract of the call; a board that no store fits is refused by row 3 or row 4.
---   refused-keeps    refused-reset
+--   refused-keeps    refused_reset
 use Prim.Native.Nat.{ℕ}
 use mathlib.Core.Path.{◌≡◌, refl, sym, ap, ◌∙◌}
 use mathlib.Core.Logic.{◌≢◌}

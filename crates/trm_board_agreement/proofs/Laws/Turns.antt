@@ -1,7 +1,7 @@
 -- The turns of a log of board calls are those of the board, and what its calls give: one bit for each line, and the line joined to itself
 -- if it is so in every call.
 -- Idea: by the two inductions over a list of calls; the rest clock by clock.
---   turns-calls, inputs-turns, end_is    the turns, and the last state        fed-bits, fed-joined    what the calls give
+--   turns-calls, inputs_turns, end_is    the turns, and the last state        fed-bits, fed-joined    what the calls give
 --   range-end    the fields stay in their ranges
 use Prim.Native.Nat.{ℕ}
 use mathlib.Core.Path.{◌≡◌, refl, ap, ◌∙◌}

@@ -1,7 +1,7 @@
 -- Clocks without an answer: the core is ahead of the devices, which follow clock by clock.
 -- Idea: a clock with answer byte 0 reads no device, so the input word 0 is what the board feeds it; while the tick does not change, the
 -- line bytes are those that were laid out before.
---   able-from, coming-from   the core may go ahead, and has gone
+--   able_from, coming-from   the core may go ahead, and has gone
 --   coming-on, coming-ends   one clock of the devices, and the last one done
 use Prim.Native.Nat.{ℕ, suc, ◌+◌, ◌-◌, ◌%◌, ◌≤◌, ◌<◌}
 use mathlib.Core.Path.{◌≡◌, refl, sym, ap, subst, ◌∙◌}

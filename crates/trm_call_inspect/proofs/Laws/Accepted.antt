@@ -1,6 +1,6 @@
 -- What the refusal number of a look, a copy or a watch implies.
 -- Idea: rows 3, 4 and 5 by trm_core's laws; the call's other row by cases of its test.
---   look-legal, copy-fits   for an accepted call        never-zero, never-nine   a refused call is not 0, an accepted one not 9
+--   look_legal, copy-fits   for an accepted call        never-zero, never-nine   a refused call is not 0, an accepted one not 9
 use Prim.Native.Nat.{ℕ}
 use mathlib.Core.Path.{◌≡◌, refl, ◌∙◌}
 use mathlib.Core.Bool.{Bool, true, false, cond}

@@ -1,6 +1,6 @@
 -- What an accepted geometry and a legal store length imply: no line, word or store is empty, and every access is within bounds.
 -- A test that holds for every entry of a table holds for its members; each such test is computed once.
---   fit   the bounds        target-in, block_in, line-in   the word, block and line of an access        member, below_all   tables
+--   fit   the bounds        target_in, block_in, line_in_lem   the word, block and line of an access        member, below_all   tables
 use Prim.Native.Nat.{ℕ, zero, suc, ◌+◌, ◌-◌, ◌*◌, ◌/◌, ◌%◌, ◌≤◌, ◌<◌}
 use mathlib.Core.Path.{◌≡◌, refl}
 use mathlib.Core.Bool.{Bool, true, false, cond, ◌&&◌, ◌||◌}

@@ -1,6 +1,6 @@
 -- The clocked machine phase by phase: what phase 5 requires, the clocks left, whether a clock is the last, and what any other clock does.
 -- One law per branch of a definition; only the tests of the phase are rewritten, never the fields of the record.
---   due-is    left-0 .. left-5    last-0 .. last-5    advance-0 .. advance-4    last-is   a clock is the last iff one is left
+--   due-is    left_0 .. left_5    last_0 .. last_5    advance_0 .. advance_4    last-is   a clock is the last iff one is left
 use Prim.Native.Nat.{ℕ, zero, suc, ◌+◌, ◌-◌, ◌*◌, ◌≤◌}
 use mathlib.Core.Path.{◌≡◌, refl, sym, ap, ◌∙◌}
 use mathlib.Core.Logic.{◌≢◌}

@@ -1,6 +1,6 @@
 -- The record after a reset: its lines are empty, and it is accepted.
 -- Every clause of the record rule, at zeros.
---   first-line, first-words, first-wide   the first cache        reset-legal   an accepted reset        reset-kept   its record is accepted
+--   first-line, first-words, first-wide   the first cache        reset_legal   an accepted reset        reset_kept   its record is accepted
 use Prim.Native.Nat.{ℕ, ◌+◌, ◌*◌, ◌≤◌, ◌<◌}
 use mathlib.Core.Path.{◌≡◌, refl}
 use mathlib.Core.Bool.{Bool, true, false, cond}

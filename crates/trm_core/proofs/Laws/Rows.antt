@@ -1,7 +1,7 @@
 -- Laws about rows 3, 4 and 5: what a call that passes them implies, and that they come before the call's own rows.
 -- By cases of the three tests.
 --   Passed, rows-passed   what the number 0 implies             rows-rest   if passed, the call's own rows decide
---   rows-kept   if not passed, the call's own rows do not matter    legal-of   the length of a store that passes
+--   rows-kept   if not passed, the call's own rows do not matter    legal_of   the length of a store that passes
 use Prim.Native.Nat.{ℕ}
 use mathlib.Core.Path.{◌≡◌, refl, sym}
 use mathlib.Core.Bool.{Bool, true, false, cond, not}

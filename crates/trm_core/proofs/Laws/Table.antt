@@ -1,6 +1,6 @@
 -- The clock table on any accepted record: one clock of the word at PC, by phase and kind.
 -- A word's first clock by cases of the kind, any other by cases of the phase (laws of `Laws.Goes`).
---   accepted   what an accepted call implies        goes_on   any clock but the last        clock-table
+--   accepted   what an accepted call implies        goes_on   any clock but the last        clock_table
 use Prim.Native.Nat.{ℕ, ◌+◌, ◌-◌, ◌*◌, ◌≤◌, ◌<◌}
 use mathlib.Core.Path.{◌≡◌, refl, sym, ap, ◌∙◌}
 use mathlib.Core.Logic.{◌≢◌}

@@ -1,6 +1,6 @@
 -- What a run that stops before an access to a device has done: clocks without an answer.
 -- Idea: its answer bytes are those of the clocks done, then zeros; they are all zeros, as they were.
---   able-reached   the run's first state        silent-from   what it has done
+--   able_reached   the run's first state        silent-from   what it has done
 use Prim.Native.Nat.{ℕ, zero, suc, ◌≤◌}
 use mathlib.Core.Path.{◌≡◌, refl, sym, ap, ◌∙◌}
 use mathlib.Core.List.{List, [], ◌∷◌, ◌++◌}

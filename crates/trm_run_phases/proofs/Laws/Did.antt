@@ -2,7 +2,7 @@
 -- Idea: only the last clock of an LD or ST at a device has an answer; so a clock of any other word writes 0, which is there already.
 --   did-since, did-quiet, did_none, did-all, did-answered, did-on   by what a turn did
 --   did-worked   a turn of one clock of the word w        stops_so, stops-not   the results of the tests for a stop
---   mute-worked   a word that is at no device has no answer        flight-inside, late-inside, other-inside   which words are at none
+--   mute-worked   a word that is at no device has no answer        flight_inside, late-inside, other-inside   which words are at none
 use Prim.Native.Nat.{ℕ, ◌+◌, ◌≤◌, ◌<◌}
 use mathlib.Core.Path.{◌≡◌, refl, sym, ap, ◌∙◌}
 use mathlib.Core.Logic.{◌≢◌}

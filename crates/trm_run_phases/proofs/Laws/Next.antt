@@ -1,8 +1,8 @@
 -- The state of a run after one more clock, from what the code returns: with an answer or without; and instructions of two clocks.
 -- Idea: the laws of Laws/Reached, with the state that the code returns in place of the state after `clock_of`.
---   answered, quiet-answered, onward-answered   the next state        room   what `went` requires        due-true   what `due` means
---   Opens, opens   what is known where an instruction begins        device-first, hit-first   the first clock of LD
---   under_at, good-under, good-at-turn, long-turned   facts of a run in a given state
+--   answered, quiet-answered, onward-answered   the next state        room   what `went` requires        due_true   what `due` means
+--   Opens, opens   what is known where an instruction begins        device_first, hit-first   the first clock of LD
+--   under_at, good-under, good-at_turn, long-turned   facts of a run in a given state
 --   rests, retold, turned-from, at_from, long-from   for the loop over words
 --   unraised, past-raised, raised-none   for the result of `raised`
 --   last-here   the clock of phase 5        entered, ended   the first of an instruction's two clocks, and the second

@@ -1,7 +1,7 @@
 -- The invariant `Stepped` of the loop over steps of the multiplier or the divider, and its preservation by one more clock.
 -- Idea: of the scalars only the registers in flight and the counts change; the clocks without a step were held.
 --   Stepped   the invariant       stepped-begins, stepped-on   no clock, one more clock
---   serves, packed, serial-room   the preconditions of the calls in the loop
+--   serves, packed, serial_room   the preconditions of the calls in the loop
 use Prim.Native.Nat.{ℕ, ◌+◌, ◌-◌, ◌≤◌, ◌<◌, ◌^◌}
 use mathlib.Core.Path.{◌≡◌, refl, sym, ap, subst}
 use mathlib.Core.Logic.{◌≢◌}

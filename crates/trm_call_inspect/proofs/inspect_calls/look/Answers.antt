@@ -1,4 +1,4 @@
--- By cases of the refusal; an accepted look has a store of legal length (look-legal).
+-- By cases of the refusal; an accepted look has a store of legal length (look_legal).
 use Rattle.trm_core.specs.Observe.{look_at}
 use Rattle.trm_call_refusals.proofs.Laws.{code-zero}
 use Rattle.trm_call_inspect.specs.Promises.{look_gives}

@@ -1,4 +1,4 @@
--- The core goes ahead (able-from, coming-from), and the devices follow (`devices_ahead`).
+-- The core goes ahead (able_from, coming-from), and the devices follow (`devices_ahead`).
 use mathlib.Core.Path.{sym, ◌∙◌}
 use native.Mathlib.Omega.{arith}
 use Rattle.trm_board_calls.proofs.Laws.Lines.{lines-count}

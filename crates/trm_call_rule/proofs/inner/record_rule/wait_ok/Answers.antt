@@ -1,4 +1,4 @@
--- The uncached charge is one more than the most waits (uncached-charge), so count < charge is count ≤ waits.
+-- The uncached charge is one more than the most waits (uncached_charge_lem), so count < charge is count ≤ waits.
 use Prim.Native.Nat.{ℕ}
 use mathlib.Core.Path.{sym, ◌∙◌}
 use mathlib.Core.Bool.{cond, ◌&&◌, and-true, and-false}

@@ -1,4 +1,4 @@
--- Operation 10 is the last clock (first-quick), 8 and 9 take a step (first-longer).
+-- Operation 10 is the last clock (first_quick), 8 and 9 take a step (first-longer).
 use native.Mathlib.Omega.{arith}
 use Rattle.trm_clock_laws.proofs.Laws.Facts.{facts}
 use Rattle.trm_clock_laws.proofs.Laws.Kinds.{stepped-of, unstepped_of, kind-stepped, kind-short}

@@ -1,4 +1,4 @@
--- By cases of the operation: mul-ends of trm_alu for 8, the contract of `finish` for 9.
+-- By cases of the operation: mul_ends of trm_alu for 8, the contract of `finish` for 9.
 use borrow.Author.Tests.{eq-eqb, ne_eqb}
 use Rattle.trm_alu.specs.Results.{result_of, high_of}
 use Rattle.trm_alu.proofs.Theorems.{theorems}

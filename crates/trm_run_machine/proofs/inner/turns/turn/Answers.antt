@@ -1,4 +1,4 @@
--- By cases: held, in flight, interrupt (interrupt-here), or the loop over instructions; each call's contract gives the turn.
+-- By cases: held, in flight, interrupt (interrupt_here), or the loop over instructions; each call's contract gives the turn.
 use native.Mathlib.Omega.{arith}
 use mathlib.Core.Path.{refl, sym, ◌∙◌}
 use Rattle.trm_run_phases.proofs.Laws.Did.{did-quiet}

@@ -1,4 +1,4 @@
--- By cases of the method: interrupt-here for an interrupt, step-clock for a step; any other clock by the contract of `other_clock`.
+-- By cases of the method: interrupt_here for an interrupt, step-clock for a step; any other clock by the contract of `other_clock`.
 use mathlib.Core.Path.{refl}
 use Rattle.trm_run_phases.proofs.Laws.Here.{interrupt_here}
 use Rattle.trm_clock_laws.proofs.Laws.Facts.{facts, few-clocks}
