@@ -1,3 +1,3 @@
 -- The laws, a topic per file.
--- `Less`: each piece leaves less to write.
-pub mod Less
+-- `Written`: what a writer has taken, piece by piece.
+pub mod Written

@@ -1,38 +1,79 @@
-// Writes the listing of an image to a file, piece by piece.
+// Reads an image, and writes the listing of one, piece by piece.
 // Paper: "reads an image .. with a store of 2,048 words, checks it whole, and runs it".
 // Each piece is written before the next is computed; a failed write ends the listing.
 #![tactic(auto)]
 
-ghost use Rattle.std.specs.Prelude.{◌≡◌, ◌≤◌, length};
+ghost use Rattle.std.specs.Prelude.{◌≡◌, ℕ, ◌<◌, ◌≤◌, take, length, IfOk, OnOk, OnErr};
+ghost use Rattle.std.specs.Io.KnownBytes.{Appends, Consumes, IsAtEnd};
+ghost use Rattle.trm_list_output.specs.Written.{AppendsFirst};
+ghost use Rattle.trm_listing.specs.Listing.{output_of};
 
+use std::io;
+use std::io::{ErrorKind, Read, Write};
 use trm_listing::inner::pieces;
 
+// Reads until the buffer is full or the input ends; returns the number of bytes that it read.
+pub fn read_full<R: Read>(input: &mut R, buf: &mut [u8]) -> io::Result<usize>
+    ensures within { IfOk result (λ n. n ≤ length buf.new) }
+    ensures taken { IfOk result (λ n. Consumes (R.remaining input.old) (R.remaining input.new) (take n buf.new)) }
+    ensures failed { OnErr result ((n : ℕ) × Consumes (R.remaining input.old) (R.remaining input.new) (take n buf.new)) }
+    ensures whole { IfOk result (λ n. n < length buf.new → IsAtEnd (R.remaining input.new)) }
+{
+    let mut done = 0;
+    while done < buf.len() {
+        let n = input.read(&mut buf[done..])?;
+        if n == 0 {
+            break;
+        }
+        done += n;
+    }
+    Ok(done)
+}
+
+// Writes all of a piece.
+fn write_piece<W: Write>(out: &mut W, piece: &[u8]) -> io::Result<()>
+    ensures ok { OnOk result (Appends (W.contents out.old) (W.contents out.new) piece.now) }
+    ensures err { OnErr result (AppendsFirst (W.contents out.old) (W.contents out.new) piece.now) }
+{
+    let mut done = 0;
+    while done < piece.len() {
+        let n = out.write(&piece[done..])?;
+        if n == 0 {
+            return Err(io::Error::from(ErrorKind::WriteZero));
+        }
+        done += n;
+    }
+    Ok(())
+}
+
 // Writes all pieces; lent are the program's words, the store and the buffer.
-fn write_pieces(
-    fd: i32,
+fn write_pieces<W: Write>(
+    out: &mut W,
     image: &[u8],
     program: &mut [u32],
     store: &mut [u32],
     buf: &mut [u8],
-) -> bool
+) -> io::Result<()>
     requires { (length program.old ≡ 4096) × (length store.old ≡ 2048) × (128 ≤ length buf.old) }
+    ensures ok { OnOk result (Appends (W.contents out.old) (W.contents out.new) (output_of image.now)) }
+    ensures err { OnErr result (AppendsFirst (W.contents out.old) (W.contents out.new) (output_of image.now)) }
 {
     let mut l = pieces::first_piece(image, program, store, buf);
-    let mut written = io::write_all(fd, &buf[..l.len]);
+    write_piece(out, &buf[..l.len])?;
     while !l.over {
-        if !written {
-            return false;
-        }
         l = pieces::next_piece(l, image, &program[..l.words], store, buf);
-        written = io::write_all(fd, &buf[..l.len]);
+        write_piece(out, &buf[..l.len])?;
     }
-    written
+    Ok(())
 }
 
-// Writes the listing of an image; returns whether all of it was written.
-pub fn write_listing(fd: i32, image: &[u8]) -> bool {
+// Writes the listing of an image.
+pub fn write_listing<W: Write>(out: &mut W, image: &[u8]) -> io::Result<()>
+    ensures ok { OnOk result (Appends (W.contents out.old) (W.contents out.new) (output_of image.now)) }
+    ensures err { OnErr result (AppendsFirst (W.contents out.old) (W.contents out.new) (output_of image.now)) }
+{
     let mut program = [0u32; 4096];
     let mut store = [0u32; 2048];
-    let mut buf = io::large_buffer();
-    write_pieces(fd, image, &mut program, &mut store, &mut buf)
+    let mut buf = [0u8; 65536];
+    write_pieces(out, image, &mut program, &mut store, &mut buf)
 }

@@ -3,6 +3,7 @@
 // f field high low: sets a field of the board; v field: prints one. 0 left, 1 sent, 2 passed, 3 bits, 4 byte, 5 ready, 6 tick, 7 lamps.
 // r: reset. k given switches joined: one clock, the line joined to itself if the last word is not 0. z: a run, as at `run`.
 // K, L, J, F and V are those of any script (script.rt of trm_test_cases).
+use std::io;
 use trm_board::record::Devices;
 use trm_board_calls::board_answers::{BoardClock, BoardRun};
 use trm_board_calls::board_calls;
@@ -62,54 +63,54 @@ fn digest_of(d: Devices) -> u64 {
 }
 
 // The cases f and v.
-fn on_devices(c: Case, d: Devices) -> Devices {
+fn on_devices(rt: &impl Print, c: Case, d: Devices) -> io::Result<Devices> {
     let kind = c.kind;
     match kind {
-        b'f' => return with_field(d, c.w0, script::value_of(c)),
-        b'v' => print::hex(field(d, c.w0), 1),
+        b'f' => return Ok(with_field(d, c.w0, script::value_of(c))),
+        b'v' => print::hex(rt, field(d, c.w0), 1)?,
         _ => {}
     }
-    d
+    Ok(d)
 }
 
 // The cases on fields: those of the core's record, then those of the board.
-pub fn on_fields(c: Case, b: Board) -> Board {
-    let machine = script::on_record(c, b.machine);
-    let devices = on_devices(c, b.devices);
-    Board {
+pub fn on_fields(rt: &impl Print, c: Case, b: Board) -> io::Result<Board> {
+    let machine = script::on_record(rt, c, b.machine)?;
+    let devices = on_devices(rt, c, b.devices)?;
+    Ok(Board {
         machine: machine,
         devices: devices,
-    }
+    })
 }
 
 // Prints digests of the board's own fields, of the record and of the store.
-fn show_board(b: Board, store: &[u32]) {
-    print::hex(digest_of(b.devices), 8);
-    script::show_all(b.machine, store);
+fn show_board(rt: &impl Print, b: Board, store: &[u32]) -> io::Result<()> {
+    print::hex(rt, digest_of(b.devices), 8)?;
+    script::show_all(rt, b.machine, store)
 }
 
 // A reset: prints its number. If refused, the script keeps its board.
-fn reset(b: Board, store: &[u32]) -> Board {
+fn reset(rt: &impl Print, b: Board, store: &[u32]) -> io::Result<Board> {
     let r = board_calls::reset(store);
     let refused = r.refused;
     let n = script::number(refused);
-    print::decimal(n);
+    print::decimal(rt, n)?;
     let next = if n == 0 { r.board } else { b };
-    show_board(next, store);
-    next
+    show_board(rt, next, store)?;
+    Ok(next)
 }
 
-fn show_said(level: u8, byte: u8, word: u32) {
-    print::decimal(level as u64);
-    script::show_answer(byte, word);
+fn show_said(rt: &impl Print, level: u8, byte: u8, word: u32) -> io::Result<()> {
+    print::decimal(rt, level as u64)?;
+    script::show_answer(rt, byte, word)
 }
 
-fn show_clock(r: BoardClock, store: &[u32]) {
+fn show_clock(rt: &impl Print, r: BoardClock, store: &[u32]) -> io::Result<()> {
     let refused = r.refused;
-    print::decimal(script::number(refused));
-    show_said(r.level, r.byte, r.word);
-    print::decimal(r.finished);
-    show_board(r.board, store);
+    print::decimal(rt, script::number(refused))?;
+    show_said(rt, r.level, r.byte, r.word)?;
+    print::decimal(rt, r.finished)?;
+    show_board(rt, r.board, store)
 }
 
 // A clock, the line given or joined.
@@ -123,18 +124,24 @@ fn clocked(c: Case, b: Board, program: &[u32], store: &mut [u32]) -> BoardClock 
 }
 
 // One clock: prints the number, the level, the answer byte and word, 1 if an instruction finished, and the digests.
-fn clock(c: Case, b: Board, program: &[u32], store: &mut [u32]) -> Board {
+fn clock(
+    rt: &impl Print,
+    c: Case,
+    b: Board,
+    program: &[u32],
+    store: &mut [u32],
+) -> io::Result<Board> {
     let r = clocked(c, b, program, store);
-    show_clock(r, store);
-    r.board
+    show_clock(rt, r, store)?;
+    Ok(r.board)
 }
 
-fn show_run(r: BoardRun, store: &[u32]) {
+fn show_run(rt: &impl Print, r: BoardRun, store: &[u32]) -> io::Result<()> {
     let refused = r.refused;
-    print::decimal(script::number(refused));
-    print::decimal(r.used);
-    print::decimal(r.finished);
-    show_board(r.board, store);
+    print::decimal(rt, script::number(refused))?;
+    print::decimal(rt, r.used)?;
+    print::decimal(rt, r.finished)?;
+    show_board(rt, r.board, store)
 }
 
 // A run, the line given or joined.
@@ -157,6 +164,7 @@ fn ran(
 
 // A run, and then digests of its buffers.
 fn run_shown(
+    rt: &impl Print,
     b: Board,
     program: &[u32],
     store: &mut [u32],
@@ -166,21 +174,27 @@ fn run_shown(
     levels: &mut [u8],
     bytes: &mut [u8],
     words: &mut [u32],
-) -> Board {
+) -> io::Result<Board> {
     let r = ran(
         b, program, store, joined, given, switches, levels, bytes, words,
     );
-    show_run(r, store);
-    print::hex(digest::of_bytes(levels), 8);
-    print::hex(digest::of_bytes(bytes), 8);
-    print::hex(digest::of_words(words), 8);
-    r.board
+    show_run(rt, r, store)?;
+    print::hex(rt, digest::of_bytes(levels), 8)?;
+    print::hex(rt, digest::of_bytes(bytes), 8)?;
+    print::hex(rt, digest::of_words(words), 8)?;
+    Ok(r.board)
 }
 
 // Prints level and answer of clock w / 65536.
-fn show_at(levels: &[u8; 65537], bytes: &[u8; 65537], words: &[u32; 65537], w: u32) {
+fn show_at(
+    rt: &impl Print,
+    levels: &[u8; 65537],
+    bytes: &[u8; 65537],
+    words: &[u32; 65537],
+    w: u32,
+) -> io::Result<()> {
     let at = (w / 65536) as usize;
-    show_said(levels[at], bytes[at], words[at]);
+    show_said(rt, levels[at], bytes[at], words[at])
 }
 
 // A run of c.w0 clocks, at most 65,537. Of c.w1 bits 3-0 give the number of switch bytes: c.w0 plus these bits less 1; bits 7-4 likewise
@@ -189,7 +203,13 @@ fn show_at(levels: &[u8; 65537], bytes: &[u8; 65537], words: &[u32; 65537], w: u
 // likewise.
 // Prints the number, the clocks used, the instructions finished, the digests, those of the buffers, and level and answer of clock
 // c.w2 / 65536.
-fn run(c: Case, b: Board, program: &[u32], store: &mut [u32]) -> Board {
+fn run(
+    rt: &impl Print,
+    c: Case,
+    b: Board,
+    program: &[u32],
+    store: &mut [u32],
+) -> io::Result<Board> {
     let given = lists::bytes_but_one(c.w2);
     let switches = lists::bytes_but_one(c.w3);
     let mut levels = lists::bytes_of(0xA5);
@@ -201,6 +221,7 @@ fn run(c: Case, b: Board, program: &[u32], store: &mut [u32]) -> Board {
     let j = lists::length_of(c.w0, c.w1 / 256 % 16);
     let k = lists::length_of(c.w0, c.w1 / 4096 % 16);
     let next = run_shown(
+        rt,
         b,
         program,
         store,
@@ -210,36 +231,54 @@ fn run(c: Case, b: Board, program: &[u32], store: &mut [u32]) -> Board {
         &mut levels[..i],
         &mut bytes[..j],
         &mut words[..k],
-    );
-    show_at(&levels, &bytes, &words, c.w2);
-    next
+    )?;
+    show_at(rt, &levels, &bytes, &words, c.w2)?;
+    Ok(next)
 }
 
 // The clock call of the core itself: the board's own fields stay as they are.
-fn core_clock(c: Case, b: Board, program: &[u32], store: &mut [u32]) -> Board {
-    let machine = script::clock(c, b.machine, program, store);
+fn core_clock(
+    rt: &impl Print,
+    c: Case,
+    b: Board,
+    program: &[u32],
+    store: &mut [u32],
+) -> io::Result<Board> {
+    let machine = script::clock(rt, c, b.machine, program, store)?;
     let devices = b.devices;
-    Board {
+    Ok(Board {
         machine: machine,
         devices: devices,
-    }
+    })
 }
 
 // The calls, with the part of program and store that is lent.
-pub fn on_lent(c: Case, lent: Lent, b: Board, program: &[u32], store: &mut [u32]) -> Board {
+pub fn on_lent(
+    rt: &impl Print,
+    c: Case,
+    lent: Lent,
+    b: Board,
+    program: &[u32],
+    store: &mut [u32],
+) -> io::Result<Board> {
     let p = lists::within(program, lent.program);
     let n = lists::within(store, lent.store);
-    called(c, b, &program[..p], &mut store[..n])
+    called(rt, c, b, &program[..p], &mut store[..n])
 }
 
-fn called(c: Case, b: Board, program: &[u32], store: &mut [u32]) -> Board {
+fn called(
+    rt: &impl Print,
+    c: Case,
+    b: Board,
+    program: &[u32],
+    store: &mut [u32],
+) -> io::Result<Board> {
     let kind = c.kind;
     match kind {
-        b'K' => return core_clock(c, b, program, store),
-        b'r' => return reset(b, store),
-        b'k' => return clock(c, b, program, store),
-        b'z' => return run(c, b, program, store),
-        _ => {}
+        b'K' => core_clock(rt, c, b, program, store),
+        b'r' => reset(rt, b, store),
+        b'k' => clock(rt, c, b, program, store),
+        b'z' => run(rt, c, b, program, store),
+        _ => Ok(b),
     }
-    b
 }

@@ -3,33 +3,42 @@
 // An argument is a file name; the first missing one ends the program.
 #![tactic(auto)]
 
-fn main() {
+use std::io::writer;
+use std::rt::{Env, Files};
+use std::{fs, io, str};
+
+fn main(rt: HostRuntime) -> io::Result<()> {
     let mut i: usize = 1;
     while i < 1000 {
-        if !one(i) {
-            return;
+        if !one(&rt, i)? {
+            break;
         }
         i += 1;
     }
+    Ok(())
 }
 
-// Lists the image that argument i names; false if there is no such argument, the file cannot be opened, or a write fails.
-fn one(i: usize) -> bool {
-    let mut path = io::buffer();
-    let length = os::arg(i, &mut path);
+// Lists the image that argument i names; false if there is no such argument, or the file cannot be opened.
+fn one(rt: &(impl Env + Files + Print + Eprint), i: usize) -> io::Result<bool> {
+    let mut path = [0u8; 4096];
+    let length = rt.arg(i, &mut path).unwrap_or(0);
     if length == 0 {
-        return false;
+        return Ok(false);
     }
-    let fd = os::open_read(&path[..length]);
-    if fd < 0 {
-        os::fail(&path[..length]);
-        return false;
-    }
+    let Ok(name) = str::from_utf8(&path[..length]) else {
+        eprintln!(rt; "argument {i} is not text")?;
+        return Ok(false);
+    };
+    let mut file = match fs::open(rt, name) {
+        Ok(file) => file,
+        Err(e) => {
+            eprintln!(rt; "{name}: {e}")?;
+            return Ok(false);
+        }
+    };
     let mut bytes = [0u8; 65537];
-    let n = io::read_full(fd, &mut bytes);
-    libc::close(fd);
-    io::write_all(1, b"== ");
-    io::write_all(1, &path[..length]);
-    io::write_all(1, b"\n");
-    trm_list_output::write_listing(1, &bytes[..n])
+    let n = trm_list_output::read_full(&mut file, &mut bytes)?;
+    println!(rt; "== {name}")?;
+    trm_list_output::write_listing(&mut writer(rt), &bytes[..n])?;
+    Ok(true)
 }

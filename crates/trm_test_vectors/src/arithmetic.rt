@@ -4,6 +4,7 @@
 ghost use Rattle.std.specs.Prelude.{◌≡◌};
 ghost use Rattle.trm_alu.specs.Divide.{divided};
 
+use std::io;
 use trm_alu::inner::divide::{Divided, Divider};
 use trm_alu::inner::{bits, divide, flags, multiply};
 use trm_test_cases::inner::print;
@@ -44,31 +45,32 @@ fn divide_whole(a: u32, b: u32) -> Divided
 }
 
 // Prints R.d and the four flags; `before` has C and V before the operation in bits 1 and 0.
-fn show(number: u32, b: u32, a: u32, before: u32, res: u32) {
+fn show(rt: &impl Print, number: u32, b: u32, a: u32, before: u32, res: u32) -> io::Result<()> {
     let c = (before / 2 % 2) as u64;
     let v = (before % 2) as u64;
     let f = flags::flags_after(number as u64, a, b, res, c, v);
-    print::hex(res as u64, 8);
-    print::decimal(f.n);
-    print::decimal(f.z);
-    print::decimal(f.c);
-    print::decimal(f.v);
+    print::hex(rt, res as u64, 8)?;
+    print::decimal(rt, f.n)?;
+    print::decimal(rt, f.z)?;
+    print::decimal(rt, f.c)?;
+    print::decimal(rt, f.v)
 }
 
 // Prints R.d, N, Z, C, V; for MUL and DIV also H.
-pub fn operation(number: u32, b: u32, a: u32, before: u32) {
+pub fn operation(rt: &impl Print, number: u32, b: u32, a: u32, before: u32) -> io::Result<()> {
     match number {
         8 => {
             let acc = multiplied(a, b, 32);
-            show(number, b, a, before, (acc % 0x1_0000_0000) as u32);
-            print::hex(acc / 0x1_0000_0000, 8);
+            show(rt, number, b, a, before, (acc % 0x1_0000_0000) as u32)?;
+            print::hex(rt, acc / 0x1_0000_0000, 8)
         }
         9 => {
             let d = divide_whole(a, b);
-            show(number, b, a, before, d.quotient);
-            print::hex(d.remainder as u64, 8);
+            show(rt, number, b, a, before, d.quotient)?;
+            print::hex(rt, d.remainder as u64, 8)
         }
         _ => show(
+            rt,
             number,
             b,
             a,
@@ -79,19 +81,20 @@ pub fn operation(number: u32, b: u32, a: u32, before: u32) {
 }
 
 // Prints the register by the steps, and by its closed form.
-pub fn multiplier(steps: u32, b: u32, a: u32) {
-    print::hex(multiplied(a, b, steps), 16);
-    print::hex(multiply::after(a, b, steps as u64), 16);
+pub fn multiplier(rt: &impl Print, steps: u32, b: u32, a: u32) -> io::Result<()> {
+    print::hex(rt, multiplied(a, b, steps), 16)?;
+    print::hex(rt, multiply::after(a, b, steps as u64), 16)
 }
 
 // Prints the registers by the steps, and by their closed form.
-pub fn divider(steps: u32, b: u32, a: u32) {
+pub fn divider(rt: &impl Print, steps: u32, b: u32, a: u32) -> io::Result<()> {
     let d = divided_so_far(a, b, steps);
-    print::hex(d.rem, 8);
-    print::hex(d.quot, 8);
+    print::hex(rt, d.rem, 8)?;
+    print::hex(rt, d.quot, 8)?;
     if steps <= 32 {
         let e = divide::after(a, b, steps as u64);
-        print::hex(e.rem, 8);
-        print::hex(e.quot, 8);
+        print::hex(rt, e.rem, 8)?;
+        print::hex(rt, e.quot, 8)?;
     }
+    Ok(())
 }

@@ -8,30 +8,38 @@ mod cases;
 mod machine_cases;
 mod word_cases;
 
+use std::io;
+use std::io::Read;
 use trm_test_cases::inner::{case_input, script};
 
-fn main() {
+fn main(rt: HostRuntime) -> io::Result<()> {
     let mut program = [0u32; 4097];
     let mut store = [0u32; 65536];
-    run_all(&mut program, &mut store);
+    run_all(&rt, &mut rt.stdin(), &mut program, &mut store)
 }
 
 // Prints every whole input line with its answer after it; at most a million.
-fn run_all(program: &mut [u32], store: &mut [u32]) {
+fn run_all(
+    rt: &impl Print,
+    input: &mut impl Read,
+    program: &mut [u32],
+    store: &mut [u32],
+) -> io::Result<()> {
     let mut m = machine_cases::start();
     let mut lent = script::nothing_lent();
     let mut left: usize = 1000000;
     while 0 < left {
         left -= 1;
-        let c = case_input::next_case();
+        let c = case_input::next_case(rt, input)?;
         if c.kind == 0 {
             break;
         }
-        cases::answer(c);
+        cases::answer(rt, c)?;
         script::fill(c, program, store);
         lent = script::lent_after(c, lent);
-        m = script::on_record(c, m);
-        m = machine_cases::on_lent(c, lent, m, program, store);
-        io::write_all(1, b"\n");
+        m = script::on_record(rt, c, m)?;
+        m = machine_cases::on_lent(rt, c, lent, m, program, store)?;
+        rt.write_all(b"\n")?;
     }
+    Ok(())
 }

@@ -1,55 +1,56 @@
 // Cases on words: decode with the instruction's fields, encode of any fields, and a count over all words.
 // Paper: the formats; "Unused bits encode as zero"; rows 3 and 10 of the refusals.
 // Forms: 0 register, 1 literal, 2 MOV H, 3 status, 4 jump, 5 jump and link, 6 RTI, 7 LD, 8 ST, 9 branch, 10 call.
+use std::io;
 use trm_codec::instruction::{Decoded, Encoded, Instruction, Operand};
 use trm_codec::{decoder, encoder, inner};
 use trm_test_cases::inner::print;
 
 // Prints a form with its fields; those that it does not have are 0.
-fn show(form: u64, x: u32, y: u32, z: u32) {
-    print::decimal(form);
-    print::hex(x as u64, 1);
-    print::hex(y as u64, 1);
-    print::hex(z as u64, 1);
+fn show(rt: &impl Print, form: u64, x: u32, y: u32, z: u32) -> io::Result<()> {
+    print::decimal(rt, form)?;
+    print::hex(rt, x as u64, 1)?;
+    print::hex(rt, y as u64, 1)?;
+    print::hex(rt, z as u64, 1)
 }
 
-fn show_instruction(i: Instruction) {
+fn show_instruction(rt: &impl Print, i: Instruction) -> io::Result<()> {
     match i {
         Instruction::Arithmetic {
             operation,
             d,
             operand,
         } => match operand {
-            Operand::Register(s) => show(0, inner::number_of(operation), d, s),
-            Operand::Literal(n) => show(1, inner::number_of(operation), d, n),
+            Operand::Register(s) => show(rt, 0, inner::number_of(operation), d, s),
+            Operand::Literal(n) => show(rt, 1, inner::number_of(operation), d, n),
         },
-        Instruction::MoveHigh { d } => show(2, d, 0, 0),
-        Instruction::SetStatus { status } => show(3, status, 0, 0),
-        Instruction::Jump { s } => show(4, s, 0, 0),
-        Instruction::JumpAndLink { d, s } => show(5, d, s, 0),
-        Instruction::ReturnFromInterrupt { s } => show(6, s, 0, 0),
-        Instruction::Load { d, s, offset } => show(7, d, s, offset),
-        Instruction::Store { d, s, offset } => show(8, d, s, offset),
-        Instruction::Branch { condition, offset } => show(9, condition, offset, 0),
-        Instruction::Call { offset } => show(10, offset, 0, 0),
+        Instruction::MoveHigh { d } => show(rt, 2, d, 0, 0),
+        Instruction::SetStatus { status } => show(rt, 3, status, 0, 0),
+        Instruction::Jump { s } => show(rt, 4, s, 0, 0),
+        Instruction::JumpAndLink { d, s } => show(rt, 5, d, s, 0),
+        Instruction::ReturnFromInterrupt { s } => show(rt, 6, s, 0, 0),
+        Instruction::Load { d, s, offset } => show(rt, 7, d, s, offset),
+        Instruction::Store { d, s, offset } => show(rt, 8, d, s, offset),
+        Instruction::Branch { condition, offset } => show(rt, 9, condition, offset, 0),
+        Instruction::Call { offset } => show(rt, 10, offset, 0, 0),
     }
 }
 
-fn show_encoded(i: Instruction) {
+fn show_encoded(rt: &impl Print, i: Instruction) -> io::Result<()> {
     match encoder::encode(i) {
-        Encoded::Word(w) => print::hex(w as u64, 5),
-        Encoded::Refused => print::text(b"refused 10"),
+        Encoded::Word(w) => print::hex(rt, w as u64, 5),
+        Encoded::Refused => print::text(rt, b"refused 10"),
     }
 }
 
 // Prints the form and the fields of a word, then the word that the instruction encodes to.
-pub fn decode(w: u32) {
+pub fn decode(rt: &impl Print, w: u32) -> io::Result<()> {
     match decoder::decode(w) {
         Decoded::Instruction(i) => {
-            show_instruction(i);
-            show_encoded(i);
+            show_instruction(rt, i)?;
+            show_encoded(rt, i)
         }
-        Decoded::Refused => print::text(b"refused 3"),
+        Decoded::Refused => print::text(rt, b"refused 3"),
     }
 }
 
@@ -88,8 +89,8 @@ fn made(form: u32, x: u32, y: u32, z: u32) -> Instruction {
     }
 }
 
-pub fn encode(form: u32, x: u32, y: u32, z: u32) {
-    show_encoded(made(form, x, y, z));
+pub fn encode(rt: &impl Print, form: u32, x: u32, y: u32, z: u32) -> io::Result<()> {
+    show_encoded(rt, made(form, x, y, z))
 }
 
 // 1 if a word decodes to an instruction that encodes to the same word, else 0.
@@ -104,12 +105,12 @@ fn canonical(w: u32) -> u64 {
 }
 
 // How many of the 2^18 words have no unused bit set: as many as there are instructions.
-pub fn count_canonical() {
+pub fn count_canonical(rt: &impl Print) -> io::Result<()> {
     let mut count: u64 = 0;
     let mut w: usize = 0;
     while w < 0x40000 {
         count = std::num::wrapping_add_u64(count, canonical(w as u32));
         w += 1;
     }
-    print::decimal(count);
+    print::decimal(rt, count)
 }

@@ -2,19 +2,31 @@
 // A line is printed as it is read, with its label, so that the answer can follow it.
 use crate::inner::case_text;
 use crate::inner::case_text::Case;
+use std::io;
+use std::io::{ErrorKind, Read};
+
+// Fills the buffer with the next bytes; false if the input ends before.
+fn is_filled(input: &mut impl Read, buf: &mut [u8]) -> io::Result<bool> {
+    match input.read_exact(buf) {
+        Ok(()) => Ok(true),
+        Err(e) if e.kind() == ErrorKind::UnexpectedEof => Ok(false),
+        Err(e) => Err(e),
+    }
+}
 
 // Reads the next case and prints it with its label; kind 0 if there is none.
-pub fn next_case() -> Case {
+pub fn next_case(rt: &impl Print, input: &mut impl Read) -> io::Result<Case> {
     let mut text = [0u8; 37];
-    let n = io::read_full(0, &mut text);
     let mut label = [0u8; 18];
-    let m = io::read_full(0, &mut label);
     let mut end = [0u8; 1];
-    if io::read_full(0, &mut end) == 0 {
-        return case_text::none();
+    if !is_filled(input, &mut text)?
+        || !is_filled(input, &mut label)?
+        || !is_filled(input, &mut end)?
+    {
+        return Ok(case_text::none());
     }
-    io::write_all(1, &text[..n]);
-    io::write_all(1, &label[..m]);
-    io::write_all(1, b" ->");
-    case_text::case_of(&text)
+    rt.write_all(&text)?;
+    rt.write_all(&label)?;
+    rt.write_all(b" ->")?;
+    Ok(case_text::case_of(&text))
 }

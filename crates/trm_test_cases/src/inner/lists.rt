@@ -4,6 +4,7 @@
 ghost use Rattle.std.specs.Prelude.{◌≤◌, ◌≡◌, length};
 
 use crate::inner::print;
+use std::io;
 
 // 65,537 bytes of one value. The contract gives only the length, which keeps the check of the callers small.
 pub fn bytes_of(value: u8) -> [u8; 65537]
@@ -60,9 +61,10 @@ pub fn fill(list: &mut [u32], from: u32, count: u32, value: u32) {
     }
 }
 
-pub fn show(list: &[u32], at: u32) {
+pub fn show(rt: &impl Print, list: &[u32], at: u32) -> io::Result<()> {
     let i = at as usize;
     if i < list.len() {
-        print::word(list[i]);
+        print::word(rt, list[i])?;
     }
+    Ok(())
 }

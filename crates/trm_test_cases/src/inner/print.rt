@@ -1,22 +1,20 @@
 // Printing of answers: every part is printed after a space.
-// Hexadecimal numbers have lower-case digits, as the kit's io prints them.
-// A failed write is not reported.
+// Hexadecimal numbers have lower-case digits, with zeros in front up to a width.
+use std::io;
 
-pub fn text(s: &[u8]) {
-    io::write_all(1, b" ");
-    io::write_all(1, s);
+pub fn text(rt: &impl Print, s: &[u8]) -> io::Result<()> {
+    rt.write_all(b" ")?;
+    rt.write_all(s)
 }
 
-pub fn hex(n: u64, width: usize) {
-    io::write_all(1, b" ");
-    io::print_hex(1, n, width);
+pub fn hex(rt: &impl Print, n: u64, width: usize) -> io::Result<()> {
+    print!(rt; " {n:0width$x}")
 }
 
-pub fn word(w: u32) {
-    hex(w as u64, 8);
+pub fn word(rt: &impl Print, w: u32) -> io::Result<()> {
+    hex(rt, w as u64, 8)
 }
 
-pub fn decimal(n: u64) {
-    io::write_all(1, b" ");
-    io::print_decimal(1, n);
+pub fn decimal(rt: &impl Print, n: u64) -> io::Result<()> {
+    print!(rt; " {n}")
 }

@@ -4,6 +4,7 @@
 // A call prints its refusal number (0: not refused), then what it reports.
 use crate::inner::case_text::Case;
 use crate::inner::{digest, fields, lists, print};
+use std::io;
 use trm_call_refusals::inner::refusal_number::number_of;
 use trm_call_refusals::refusal::Refusal;
 use trm_calls::machine_calls;
@@ -53,14 +54,14 @@ pub fn value_of(c: Case) -> u64 {
 }
 
 // The cases F and V.
-pub fn on_record(c: Case, m: Machine) -> Machine {
+pub fn on_record(rt: &impl Print, c: Case, m: Machine) -> io::Result<Machine> {
     let kind = c.kind;
     match kind {
-        b'F' => return fields::with_field(m, c.w0 as usize, value_of(c)),
-        b'V' => print::hex(fields::field(m, c.w0 as usize), 1),
+        b'F' => return Ok(fields::with_field(m, c.w0 as usize, value_of(c))),
+        b'V' => print::hex(rt, fields::field(m, c.w0 as usize), 1)?,
         _ => {}
     }
-    m
+    Ok(m)
 }
 
 pub fn number(refused: Refusal) -> u64 {
@@ -68,28 +69,34 @@ pub fn number(refused: Refusal) -> u64 {
 }
 
 // Prints digests of the whole record and of the store.
-pub fn show_all(m: Machine, store: &[u32]) {
-    print::hex(fields::digest_of(m), 8);
-    print::hex(digest::of_words(store), 8);
+pub fn show_all(rt: &impl Print, m: Machine, store: &[u32]) -> io::Result<()> {
+    print::hex(rt, fields::digest_of(m), 8)?;
+    print::hex(rt, digest::of_words(store), 8)
 }
 
-pub fn show_answer(byte: u8, word: u32) {
-    print::hex(byte as u64, 2);
-    print::word(word);
+pub fn show_answer(rt: &impl Print, byte: u8, word: u32) -> io::Result<()> {
+    print::hex(rt, byte as u64, 2)?;
+    print::word(rt, word)
 }
 
-fn show_clock(r: Clock, store: &[u32]) {
+fn show_clock(rt: &impl Print, r: Clock, store: &[u32]) -> io::Result<()> {
     let refused = r.refused;
-    print::decimal(number(refused));
-    show_answer(r.byte, r.word);
-    print::decimal(r.finished);
-    show_all(r.machine, store);
+    print::decimal(rt, number(refused))?;
+    show_answer(rt, r.byte, r.word)?;
+    print::decimal(rt, r.finished)?;
+    show_all(rt, r.machine, store)
 }
 
 // The case K, c.w0 being the line byte and c.w1 the input word: prints the number, the answer byte and word, 1 if an instruction
 // finished, and the digests.
-pub fn clock(c: Case, m: Machine, program: &[u32], store: &mut [u32]) -> Machine {
+pub fn clock(
+    rt: &impl Print,
+    c: Case,
+    m: Machine,
+    program: &[u32],
+    store: &mut [u32],
+) -> io::Result<Machine> {
     let r = machine_calls::clock(m, program, store, (c.w0 % 256) as u8, c.w1);
-    show_clock(r, store);
-    r.machine
+    show_clock(rt, r, store)?;
+    Ok(r.machine)
 }
