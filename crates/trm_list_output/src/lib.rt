@@ -1,11 +1,11 @@
 // Reads an image, and writes the listing of one, piece by piece.
 // Paper: "reads an image .. with a store of 2,048 words, checks it whole, and runs it".
-// Each piece is written before the next is computed; a failed write ends the listing.
+// Each piece is written before the next is computed; a failed write ends the listing. A call that a signal interrupts counts as failed.
 #![tactic(auto)]
 
-ghost use Rattle.std.specs.Prelude.{◌≡◌, ℕ, ◌<◌, ◌≤◌, take, length, IfOk, OnOk, OnErr};
+ghost use Rattle.std.specs.Prelude.{◌≡◌, ◌<◌, ◌≤◌, take, length, IfOk, OnOk, OnErr};
 ghost use Rattle.std.specs.Io.KnownBytes.{Appends, Consumes, IsAtEnd};
-ghost use Rattle.trm_list_output.specs.Written.{AppendsFirst};
+ghost use Rattle.trm_list_output.specs.Moved.{AppendsFirst, ConsumesFirst};
 ghost use Rattle.trm_listing.specs.Listing.{output_of};
 
 use std::io;
@@ -16,7 +16,7 @@ use trm_listing::inner::pieces;
 pub fn read_full<R: Read>(input: &mut R, buf: &mut [u8]) -> io::Result<usize>
     ensures within { IfOk result (λ n. n ≤ length buf.new) }
     ensures taken { IfOk result (λ n. Consumes (R.remaining input.old) (R.remaining input.new) (take n buf.new)) }
-    ensures failed { OnErr result ((n : ℕ) × Consumes (R.remaining input.old) (R.remaining input.new) (take n buf.new)) }
+    ensures failed { OnErr result (ConsumesFirst (R.remaining input.old) (R.remaining input.new) buf.new) }
     ensures whole { IfOk result (λ n. n < length buf.new → IsAtEnd (R.remaining input.new)) }
 {
     let mut done = 0;

@@ -7,7 +7,7 @@ use Rattle.std.proofs.lemmas.List.{take-append-le, take_min}
 use Rattle.std.proofs.Math.Seq.{take-append-add}
 use Rattle.trm_listing.specs.declared.inner.pieces.Listing.{Listing}
 use Rattle.trm_listing.specs.Pieces.{rest_of, Ready, PieceHolds}
-use Rattle.trm_list_output.specs.Written.{AppendsFirst}
+use Rattle.trm_list_output.specs.Moved.{AppendsFirst}
 
 first_of : (n : ℕ) (piece rest : List ℕ) → take n piece ≡ take (min n (length piece)) (piece ++ rest)
 first_of n piece rest = sym (take-append-le (min n (length piece)) piece rest (omega arith) ∙ take_min n piece)
@@ -20,11 +20,13 @@ Appends-piece a b c whole done left piece rest e f p q =
 pub AppendsFirst-piece : (a b c : Option (List ℕ)) (whole done left piece rest : List ℕ) → whole ≡ done ++ left → left ≡ piece ++ rest
     → Appends a b done → AppendsFirst b c piece → AppendsFirst a c whole
 AppendsFirst-piece a b c whole done left piece rest e f p (n, q) =
-    let m = min n (length piece) in
-    (length done + m, subst (Appends a c)
-    (ap (λ l. done ++ l) (first_of n piece rest) ∙ sym (take-append-add done (piece ++ rest) m)
-    ∙ ap (take (length done + m)) (sym (e ∙ ap (λ l. done ++ l) f)))
-    (Appends-trans a b c done (take n piece) p q))
+    let m = min n (length piece) in (
+      length done + m,
+      subst (Appends a c)
+          (ap (λ l. done ++ l) (first_of n piece rest) ∙ sym (take-append-add done (piece ++ rest) m)
+          ∙ ap (take (length done + m)) (sym (e ∙ ap (λ l. done ++ l) f)))
+          (Appends-trans a b c done (take n piece) p q),
+    )
 
 -- the whole is written when nothing is left
 pub Appends-whole : (a b : Option (List ℕ)) (whole done s p st : List ℕ) (l : Listing) → l.over ≡ true

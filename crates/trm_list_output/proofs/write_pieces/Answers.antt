@@ -1,5 +1,5 @@
 -- A piece that is written goes from what is left to what is written; of one that fails the writer has taken the first bytes.
-use Rattle.std.proofs.Common.{[], take, OnErr, Result, Ok, Err, rules, refl}
+use Rattle.std.proofs.Common.{[], OnErr, Result, Ok, Err, rules, refl}
 use borrow.Author.Tests.{not-false}
 use Rattle.std.proofs.KnownBytes.{Appends-nil}
 use Rattle.trm_list_output.proofs.Laws.Written.{Appends-piece, AppendsFirst-piece, Appends-whole, text-still, ready-still}
