@@ -9,5 +9,5 @@ pub loop-k-preserved : goal.loop-k-preserved
 loop-k-preserved c = (
   omega arith,
   c.step-d.ensures ∙ ap (λ (d : Divider). div_step d.rem d.quot c.args.a) c.loop-k.invariant.1
-      ∙ theorems.div-steps c.args.a c.args.b c.loop-k.k c.ranges.b.fits (omega arith),
+      ∙ theorems.div_steps c.args.a c.args.b c.loop-k.k c.ranges.b.fits (omega arith),
 )
