@@ -18,7 +18,7 @@ fn main(rt: HostRuntime) -> io::Result<()> {
     Ok(())
 }
 
-// Lists the image that argument i names; false if there is no such argument, or the file cannot be opened.
+// Lists the image that argument i names; false if there is no such argument, it is not text, or the file cannot be opened.
 fn one(rt: &(impl Env + Files + Print + Eprint), i: usize) -> io::Result<bool> {
     let mut path = [0u8; 4096];
     let length = rt.arg(i, &mut path).unwrap_or(0);

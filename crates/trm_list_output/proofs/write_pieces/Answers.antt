@@ -11,7 +11,8 @@ on_err (Err e) p = p
 
 pub returns-in_err-write_piece-clause-err : goal.returns-in_err-write_piece-clause-err
 returns-in_err-write_piece-clause-err g c =
-    on_err c.from_residual.result (AppendsFirst-piece _ _ _ _ [] _ _ _ refl c.first_piece-l.ensures.text (Appends-nil _) c.in_err-write_piece.ensures.err)
+    on_err c.from_residual.result
+    (AppendsFirst-piece _ _ _ _ [] _ _ _ refl c.first_piece-l.ensures.text (Appends-nil _) c.in_err-write_piece.ensures.err)
 
 pub loop-l-preserved : goal.loop-l-preserved
 loop-l-preserved g c =
