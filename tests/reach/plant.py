@@ -33,8 +33,8 @@ class Place:
 class Planter:
     """One file: its tokens, and what is inserted before them."""
 
-    def __init__(self, path, text, first):
-        self.path, self.first = path, first
+    def __init__(self, path, text, first, is_exported):
+        self.path, self.first, self.is_exported = path, first, is_exported
         self.tokens = tokens_of(f'crates/{path}', text)
         self.partners = partners_of(f'crates/{path}', self.tokens)
         self.before = [''] * (len(self.tokens) + 1)
@@ -80,7 +80,10 @@ class Planter:
         if name == 'main' and self.partners[at + 2] > at + 3:
             self.make_handle(at + 3, self.partners[at + 2], body)
         if self.is_mark(at - 2, 'extern') and self.tokens[at - 1].text == '"C"':
-            self.lend_slices(at, body)
+            if self.is_exported:
+                self.lend_slices(at, body)
+            else:
+                self.tokens[at - 2].text = self.tokens[at - 1].text = ''
 
     def make_handle(self, begin, end, body):
         """The parameter of main, the handle of the program, becomes a variable."""
@@ -195,6 +198,12 @@ class Planter:
             token.text = ''
         self.before[body + 1] += f' let {text} = reach::lent{"_mut" if mut else ""}({text}_at, {text}_many);'
 
+    def drop_export(self, at):
+        """#[unsafe(no_mangle)] is for a static library; elsewhere a function with it is a function as any."""
+        if not self.is_exported:
+            for token in self.tokens[at - 2:self.partners[at - 1] + 1]:
+                token.text = ''
+
     def drop_drop(self, at):
         """Rattle's derive of Drop says that a value may be let go, which Rust allows of any."""
         for token in self.tokens[at + 2:self.partners[at + 1]]:
@@ -214,7 +223,7 @@ class Planter:
     def plant(self):
         """Inserts all counters; returns the text as Rust."""
         forms = {'fn': self.plant_function, 'if': self.plant_condition, 'while': self.plant_condition, 'match': self.plant_match,
-                 'let': self.plant_let, 'derive': self.drop_drop}
+                 'let': self.plant_let, 'derive': self.drop_drop, 'unsafe': self.drop_export}
         self.before[0] += 'use reach::prelude::*;'
         for at, token in enumerate(self.tokens):
             if token.kind == 'mark' and token.text in BRANCHING and at not in self.known:

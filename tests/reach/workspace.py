@@ -46,11 +46,11 @@ def write_manifest(crate, needs, is_static=False):
           f'[package]\nname = "{crate}"\nversion = "0.1.0"\nedition = "2021"\n{kind}\n[dependencies]\n{needs}')
 
 
-def write_crate(crate, first):
+def write_crate(crate, first, is_static):
     """Writes the crate as Rust; returns its places, numbered from `first` on."""
     places, source = [], CRATES / crate / 'src'
     for path in sorted(source.rglob('*.rt')):
-        planter = Planter(str(path.relative_to(CRATES)), path.read_text(encoding='utf-8'), first + len(places))
+        planter = Planter(str(path.relative_to(CRATES)), path.read_text(encoding='utf-8'), first + len(places), is_static)
         write((ROOM / crate / 'src' / path.relative_to(source)).with_suffix('.rs'), planter.plant())
         places += planter.places
     return places
@@ -64,7 +64,7 @@ def write_workspace():
         write(ROOM / 'reach' / 'src' / path.name, path.read_text(encoding='utf-8'))
     for crate, needs, is_static in listed():
         write_manifest(crate, ['reach', *needs], is_static)
-        places += write_crate(crate, len(places))
+        places += write_crate(crate, len(places), is_static)
         members.append(crate)
     names = ', '.join(f'"{name}"' for name in members)
     write(ROOM / 'Cargo.toml', f'[workspace]\nresolver = "2"\nmembers = [{names}]\n{PROFILE}')
