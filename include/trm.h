@@ -1,7 +1,7 @@
 /*
  * Weaverlamp: a clock-accurate simulator of the Tiny Register Machine. The C interface of libtrm.a.
  * Paper: the record and the calls of "Clock by clock"; the numbers of "Where calls are turned down"; images. Request A1: the serial board.
- * Link: cc program.c -I include target/staticlib/libtrm.a (made by `rt staticlib trm`), x86-64 Linux.
+ * Link: cc program.c -I include target/staticlib/libtrm.a (made by `tools/archive`), x86-64 Linux.
  *
  * Every call returns, whatever the values of its arguments, and either does its work or refuses it. `number` in its answer is
  * TRM_ACCEPTED (0) or one of TRM_REFUSED_.. below. Arguments are checked first, in the order in which the call's comment lists the

@@ -1,10 +1,8 @@
 # What a program of crates/ printed when rt last ran it, compared with its file stdout: the cases that differ, each with its label.
 # Called: imported by tests/vectors/make and tests/images/make; it does nothing when run. It counts nothing: rt has counted the run.
-# Reads: target/log/NAME.stdout, which rt writes, and stdin, args and stdout of crates/NAME.
+# Reads: out/stdout of crates/NAME, which rt ci writes, and its stdin, args and stdout.
 from itertools import zip_longest
-from pathlib import Path
 
-ROOT = Path(__file__).resolve().parents[1]
 MOST = 20  # cases that are printed
 
 
@@ -16,7 +14,7 @@ def first_other(wanted, printed):
 
 def tell(folder, cases_of):
     """Prints the cases of the last run that differ; cases_of splits an output into [(label, text)]. A run of older files is left out."""
-    log = ROOT / 'target' / 'log' / f'{folder.name}.stdout'
+    log = folder / 'out' / 'stdout'
     inputs = [path for path in (folder / name for name in ('stdin', 'args', 'stdout')) if path.exists()]
     if not log.exists() or any(path.stat().st_mtime > log.stat().st_mtime for path in inputs):
         return

@@ -29,17 +29,21 @@ def listing(text=None):
     """Each crate of crates.txt, or of such a text, with the crates that its line lists, in the file's order."""
     bare = re.sub(r'#.*', '', text_of(ROOT / 'crates.txt') if text is None else text)
     lines = [line.partition(':') for line in bare.split('\n') if ':' in line]
-    return {name.strip(): needs.split() for name, _, needs in lines}
+    return {head.split()[0]: needs.split() for head, _, needs in lines}  # a head may go on after the name: `NAME staticlib`
 
 
 def files(pattern):
-    """The files under the root that a pattern names, in order, without target/ and .git/."""
+    """The files under the root that a pattern names, in order, without target/, .git/ and what rt keeps in crates/CRATE/out/."""
     return sorted(p for p in ROOT.glob(pattern) if p.is_file() and not hidden(p))
 
 
 def hidden(path):
     parts = path.relative_to(ROOT).parts
-    return 'target' in parts or parts[0] == '.git' or '__pycache__' in parts
+    return 'target' in parts or parts[0] == '.git' or '__pycache__' in parts or (parts[0] == 'crates' and parts[2:3] == ('out',))
+
+
+def is_program(crate):
+    return (CRATES / crate / 'src' / 'main.rt').is_file()
 
 
 def blank(piece):
@@ -49,7 +53,7 @@ def blank(piece):
 
 # What begins a comment, and quoted texts, in which it does not.
 ANTT = re.compile(r'"(?:\\.|[^"\\])*"|\{-|(?:(?<=[\s(){}.;,@])|^)--[^\n]*', re.M)
-RATTLE = re.compile(r'b?"(?:\\.|[^"\\])*"|/\*.*?\*/|//[^\n]*', re.S)
+RATTLE = re.compile(r'b?"(?:\\.|[^"\\])*"|b?\'(?:\\.|[^\'\\])\'|/\*.*?\*/|//[^\n]*', re.S)
 
 
 def block_end(text, at):

@@ -9,7 +9,7 @@ fn main() {
     let usual = root.join("target/staticlib").display().to_string();
     let folder = env::var("TRM_ARCHIVE").unwrap_or(usual);
     let archive = format!("{folder}/libtrm.a");
-    assert!(Path::new(&archive).exists(), "no {archive}: make it with `rt staticlib trm`");
+    assert!(Path::new(&archive).exists(), "no {archive}: make it with `tools/archive`");
     println!("cargo:rustc-link-search=native={folder}");
     println!("cargo:rustc-link-lib=static=trm");
     println!("cargo:rerun-if-changed={archive}");

@@ -125,8 +125,8 @@ def expected():
         plains.append(mixed(plain_numbers(plain, answer)))
         finishes += [record.clocks] * answer[2]
         phases.append(record.phase)
-    return {'expectedRecordDigest': mixed(records), 'expectedReferenceDigest': mixed(plains),
-            'expectedFinishes': finishes, 'expectedPhases': spans(phases)}
+    return {'expected_record_digest': mixed(records), 'expected_reference_digest': mixed(plains),
+            'expected_finishes': finishes, 'expected_phases': spans(phases)}
 
 
 def trace():

@@ -1,6 +1,7 @@
 # Inserts a counter at every function, at both outcomes of every condition and at every arm of a match, and translates the text to Rust.
 # Called: imported by tests/reach/workspace.py; it does nothing when run.
 # Reads: nothing; it gets a file's text. It stops at a form that it does not know, with the file and the line number.
+# A `?` has no counter: what it passes on is a failed read or write, and the code that it skips has counters of its own.
 from dataclasses import dataclass
 
 from rattle import Unknown, partners_of, text_of, tokens_of
@@ -9,8 +10,10 @@ from rattle import Unknown, partners_of, text_of, tokens_of
 RUST = set('''as async await break const continue crate dyn else enum extern fn for if impl in let loop macro_rules match mod move mut pub
     ref return self static struct super trait type union unsafe use where while yield'''.split())
 KNOWN = set('as break const continue crate else enum extern fn if impl let match mod mut pub return self struct super use while'.split())
-# Operators with a branch of their own, for which no counter is inserted: an operand that may not be evaluated, an early return.
-BRANCHING = {'&&', '||', '?'}
+# Operators with a branch of their own, an operand that may not be evaluated: known only between the parts of a condition.
+BRANCHING = {'&&', '||'}
+# Macros that take the handle of the program, as `println!(rt; "..")`; the stand-in of std has them, too.
+PRINTING = {'print', 'println', 'eprint', 'eprintln'}
 
 
 @dataclass(frozen=True)
@@ -30,14 +33,15 @@ class Place:
 class Planter:
     """One file: its tokens, and what is inserted before them."""
 
-    def __init__(self, path, text, first):
-        self.path, self.first = path, first
+    def __init__(self, path, text, first, is_exported):
+        self.path, self.first, self.is_exported = path, first, is_exported
         self.tokens = tokens_of(f'crates/{path}', text)
         self.partners = partners_of(f'crates/{path}', self.tokens)
         self.before = [''] * (len(self.tokens) + 1)
         self.places, self.names = [], {}
         self.bodies = []  # (name, index of `{`, index of `}`) of each function
-        self.if_ends = set()
+        self.before_else = set()  # where an `else` may follow
+        self.known = set()  # operators and guards that have their counters
 
     def stop(self, at, what):
         raise Unknown(f'crates/{self.path}', self.tokens[at].line, what)
@@ -73,20 +77,59 @@ class Planter:
         body = self.next_open(at)
         self.bodies.append((name, body, self.partners[body]))
         self.before[body + 1] += f' reach::hit({self.new_place(body, "start")});'
+        if name == 'main' and self.partners[at + 2] > at + 3:
+            self.make_handle(at + 3, self.partners[at + 2], body)
         if self.is_mark(at - 2, 'extern') and self.tokens[at - 1].text == '"C"':
-            self.lend_slices(at, body)
+            if self.is_exported:
+                self.lend_slices(at, body)
+            else:
+                self.tokens[at - 2].text = self.tokens[at - 1].text = ''
+
+    def make_handle(self, begin, end, body):
+        """The parameter of main, the handle of the program, becomes a variable."""
+        words = [token.text for token in self.tokens[begin:end]]
+        if words[1:] != [':', 'HostRuntime']:
+            self.stop(begin, 'a parameter of main that is not known')
+        for token in self.tokens[begin:end]:
+            token.text = ''
+        self.before[body + 1] += f' let {words[0]} = reach::rt::host();'
+
+    def plant_outcomes(self, begin, end, text):
+        """A counter for each of the two outcomes of a condition."""
+        yes, no = (self.new_place(begin, f'{text}, {way}') for way in ('true', 'false'))
+        self.before[begin] += ' reach::either('
+        self.before[end] += f', {yes}, {no})'
 
     def plant_condition(self, at):
-        """if and while: a counter for each of the two outcomes of the condition."""
+        """if and while: counters for each part of the condition between `&&` and `||`."""
+        if at in self.known:
+            return
         body = self.next_open(at + 1)
         if self.is_mark(at + 1, 'let'):
             self.stop(at, f'`{self.tokens[at].text} let`')
-        text = f'{self.tokens[at].text} {text_of(self.tokens[at + 1:body])}'
-        yes, no = (self.new_place(at, f'{text}, {way}') for way in ('true', 'false'))
-        self.before[at + 1] += ' reach::either('
-        self.before[body] += f', {yes}, {no})'
+        begin = here = at + 1
+        while here <= body:
+            if here == body or self.is_mark(here, *BRANCHING):
+                self.plant_outcomes(begin, here, f'{self.tokens[at].text} {text_of(self.tokens[begin:here])}')
+                self.known.add(here)
+                begin = here + 1
+            here = self.partners.get(here, here) + 1
         if self.is_mark(at, 'if'):
-            self.if_ends.add(self.partners[body])
+            self.before_else.add(self.partners[body])
+
+    def plant_let(self, at):
+        """let .. else: a counter where the pattern fits, and one where it does not."""
+        end = at + 1
+        while not self.is_mark(end, ';') and not (self.is_mark(end, 'else') and not self.is_mark(end - 1, '}')):
+            end = self.partners.get(end, end) + 1
+        if self.is_mark(end, ';'):
+            return
+        text = f'let {text_of(self.tokens[at + 1:end])}'
+        fits, other = (self.new_place(at, f'{text}, {way}') for way in ('fits', 'else'))
+        body = self.next_open(end)
+        self.before[body + 1] += f' reach::hit({other});'
+        self.before[self.partners[body] + 2] += f' reach::hit({fits});'
+        self.before_else.add(end - 1)
 
     def plant_match(self, at):
         body = self.next_open(at + 1)
@@ -97,12 +140,16 @@ class Planter:
 
     def plant_arm(self, begin, end, over):
         """One arm; returns the index where the next begins."""
-        arrow = begin
+        arrow, guard = begin, None
         while not self.is_mark(arrow, '=>'):
-            if arrow >= end or self.is_mark(arrow, 'if', '|'):
+            if arrow >= end or self.is_mark(arrow, '|') or (guard and self.is_mark(arrow, *BRANCHING)):
                 self.stop(begin, 'an arm in a form that is not known')
+            guard = arrow if self.is_mark(arrow, 'if') else guard
             arrow = self.partners.get(arrow, arrow) + 1
-        counters = self.counters(begin, arrow, over)
+        if guard:
+            self.plant_outcomes(guard + 1, arrow, f'match {over}, {text_of(self.tokens[begin:arrow])}')
+            self.known.add(guard)
+        counters = '' if guard else self.counters(begin, arrow, over)
         if self.is_mark(arrow + 1, '{'):
             self.before[arrow + 2] += counters
             after = self.partners[arrow + 1] + 1
@@ -151,27 +198,40 @@ class Planter:
             token.text = ''
         self.before[body + 1] += f' let {text} = reach::lent{"_mut" if mut else ""}({text}_at, {text}_many);'
 
+    def drop_export(self, at):
+        """#[unsafe(no_mangle)] is for a static library; elsewhere a function with it is a function as any."""
+        if not self.is_exported:
+            for token in self.tokens[at - 2:self.partners[at - 1] + 1]:
+                token.text = ''
+
+    def drop_drop(self, at):
+        """Rattle's derive of Drop says that a value may be let go, which Rust allows of any."""
+        for token in self.tokens[at + 2:self.partners[at + 1]]:
+            token.text = '' if token.text in ('Drop', ',') else f'{token.text},'
+
     def check_name(self, at):
         text = self.tokens[at].text
-        if text in RUST - KNOWN:
+        if text in RUST - KNOWN and not (text == 'unsafe' and self.is_mark(at - 1, '[')):  # #[unsafe(no_mangle)]
             self.stop(at, f'`{text}` is not known here')
-        if text == 'else' and at - 1 not in self.if_ends:
+        if text == 'else' and at - 1 not in self.before_else:
             self.stop(at, 'an `else` of no `if`')
         if self.is_mark(at + 1, '!') and self.is_mark(at + 2, '(', '[', '{') and text not in RUST:
-            self.stop(at, f'a macro: {text}!')
+            if text not in PRINTING or not self.is_mark(at + 4, ';'):
+                self.stop(at, f'a macro: {text}!')
+            self.before[at] += ' reach::'
 
     def plant(self):
         """Inserts all counters; returns the text as Rust."""
-        forms = {'fn': self.plant_function, 'if': self.plant_condition, 'while': self.plant_condition, 'match': self.plant_match}
+        forms = {'fn': self.plant_function, 'if': self.plant_condition, 'while': self.plant_condition, 'match': self.plant_match,
+                 'let': self.plant_let, 'derive': self.drop_drop, 'unsafe': self.drop_export}
+        self.before[0] += 'use reach::prelude::*;'
         for at, token in enumerate(self.tokens):
-            if token.kind == 'mark' and token.text in BRANCHING:
-                self.stop(at, f'`{token.text}` has a way of its own; no counter is planted for it')
+            if token.kind == 'mark' and token.text in BRANCHING and at not in self.known:
+                self.stop(at, f'`{token.text}` has a way of its own; no counter is planted for it here')
             if token.kind == 'name':
                 self.check_name(at)
                 forms.get(token.text, lambda _: None)(at)
-                if token.text in ('struct', 'enum'):  # Rattle copies such a value where it is used
-                    self.before[at - self.is_mark(at - 1, 'pub')] += ' #[derive(Clone, Copy)]'
-                if token.text == 'std':  # the kit's: std::num
+                if token.text == 'std':  # the kit's: the stand-in has what is used of it
                     token.text = 'reach'
         pieces = [token.gap + before + ' ' * bool(before) + token.text for token, before in zip(self.tokens, self.before)]
         return ''.join(pieces) + self.before[-1] + '\n'

@@ -1,4 +1,4 @@
-# Splits Rattle code into tokens, without what only proofs use: contracts, `ghost use` and comments.
+# Splits Rattle code into tokens, without what only proofs use: contracts, `ghost use`, attributes of proofs and comments.
 # Called: imported by tests/reach/plant.py; it does nothing when run.
 # Reads: nothing; it gets a text. It stops at anything that it does not know, with the file and the line number.
 import re
@@ -9,8 +9,9 @@ TOKEN = re.compile(r'''(?P<gap>\s+|//[^\n]*)
     |(?P<number>\d\w*)
     |(?P<name>[A-Za-z_]\w*)
     |(?P<mark>=>|->|::|\.\.=|\.\.|==|!=|<=|>=|<<|>>|[-+*/%]=|&&|\|\||[-+*/%&|^!<>=(){}\[\],;:.\#?])''', re.X | re.A)
-CONTRACT = re.compile(r'(?:requires|ensures)\s*(?:\w+\s*)?\{')
+CONTRACT = re.compile(r'(?:requires|ensures)\*?\s*(?:\w+\s*)?\{')
 GHOST_USE = re.compile(r'ghost\s+use\s[^;]*;')
+PROVING = re.compile(r'#!?\[\s*(?:tactic|cycle)\b')
 PAIRS = {'(': ')', '[': ']', '{': '}'}
 
 
@@ -29,14 +30,14 @@ class Token:
     gap: str  # the white space before it
 
 
-def braces_end(path, text, at):
-    """The index after the brace that closes the one before this index."""
+def closing_end(path, text, at, opening='{'):
+    """The index after the bracket that closes the one before this index."""
     depth = 1
-    for mark in re.finditer(r'[{}]', text[at:]):
-        depth += 1 if mark[0] == '{' else -1
+    for mark in re.finditer(f'[{re.escape(opening + PAIRS[opening])}]', text[at:]):
+        depth += 1 if mark[0] == opening else -1
         if depth == 0:
             return at + mark.end()
-    raise Unknown(path, text.count('\n', 0, at) + 1, 'a brace that nothing closes')
+    raise Unknown(path, text.count('\n', 0, at) + 1, f'a `{opening}` that nothing closes')
 
 
 def ghost_end(path, text, at, name):
@@ -45,7 +46,7 @@ def ghost_end(path, text, at, name):
     found = pattern.match(text, at)
     if not found:
         raise Unknown(path, text.count('\n', 0, at) + 1, f'`{name}` in a form that is not known')
-    return found.end() if name == 'ghost' else braces_end(path, text, found.end())
+    return found.end() if name == 'ghost' else closing_end(path, text, found.end())
 
 
 def tokens_of(path, text):
@@ -58,6 +59,8 @@ def tokens_of(path, text):
         kind, piece, end = found.lastgroup, found[0], found.end()
         if kind == 'name' and piece in ('ghost', 'requires', 'ensures'):
             kind, end = 'gap', ghost_end(path, text, at, piece)
+        elif proving := PROVING.match(text, at):
+            kind, end = 'gap', closing_end(path, text, proving[0].index('[') + at + 1, '[')
         lines = text.count('\n', at, end)
         if kind == 'gap':
             gap += piece if piece.isspace() else '\n' * lines

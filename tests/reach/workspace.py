@@ -1,8 +1,9 @@
 # Writes the crates as a Cargo workspace with counters, under target/reach, and builds it: the archive libtrm.a and the programs.
 # Called: imported by tests/reach/run; it does nothing when run.
-# Reads: crates.txt, crates/*/src, tests/reach/stand_in for the counters and for the kit's io, libc and os.
+# Reads: crates.txt, crates/*/src, tests/reach/stand_in for the counters and for the kit's std.
 import os
 import re
+import shutil
 import subprocess
 from pathlib import Path
 
@@ -13,6 +14,7 @@ CRATES = ROOT / 'crates'
 STAND_IN = ROOT / 'tests' / 'reach' / 'stand_in'
 ROOM = ROOT / 'target' / 'reach'
 RELEASE = ROOM / 'target' / 'release'
+ARCHIVE = ROOM / 'archive' / 'libtrm.a'
 # Overflow checks are on, although the proofs exclude overflow; a panic ends the process, which every test counts as a failure.
 PROFILE = '''
 [profile.release]
@@ -24,10 +26,10 @@ codegen-units = 1
 
 
 def listed():
-    """(crate, the crates that it depends on) for each crate of crates.txt."""
+    """(crate, the crates that it depends on, whether it is a static library) for each crate of crates.txt."""
     for line in (ROOT / 'crates.txt').read_text(encoding='utf-8').split('\n'):
-        if found := re.match(r'(\w+):([^#]*)', line):
-            yield found[1], found[2].split()
+        if found := re.match(r'(\w+)( staticlib)?:([^#]*)', line):
+            yield found[1], found[3].split(), bool(found[2])
 
 
 def write(path, text):
@@ -37,18 +39,18 @@ def write(path, text):
         path.write_text(text, encoding='utf-8')
 
 
-def write_manifest(crate, needs):
-    kind = '\n[lib]\ncrate-type = ["rlib", "staticlib"]\n' if crate == 'trm' else ''
+def write_manifest(crate, needs, is_static=False):
+    kind = '\n[lib]\ncrate-type = ["staticlib"]\n' if is_static else ''
     needs = ''.join(f'{name} = {{ path = "../{name}" }}\n' for name in needs)
     write(ROOM / crate / 'Cargo.toml',
           f'[package]\nname = "{crate}"\nversion = "0.1.0"\nedition = "2021"\n{kind}\n[dependencies]\n{needs}')
 
 
-def write_crate(crate, first):
+def write_crate(crate, first, is_static):
     """Writes the crate as Rust; returns its places, numbered from `first` on."""
     places, source = [], CRATES / crate / 'src'
     for path in sorted(source.rglob('*.rt')):
-        planter = Planter(str(path.relative_to(CRATES)), path.read_text(encoding='utf-8'), first + len(places))
+        planter = Planter(str(path.relative_to(CRATES)), path.read_text(encoding='utf-8'), first + len(places), is_static)
         write((ROOM / crate / 'src' / path.relative_to(source)).with_suffix('.rs'), planter.plant())
         places += planter.places
     return places
@@ -58,15 +60,12 @@ def write_workspace():
     """Writes the whole workspace; returns every place, its index being its number."""
     places, members = [], ['reach']
     write_manifest('reach', [])
-    write(ROOM / 'reach' / 'src' / 'lib.rs', (STAND_IN / 'reach.rs').read_text(encoding='utf-8'))
-    for crate, needs in listed():
-        write_manifest(crate, ['reach', *needs])
-        places += write_crate(crate, len(places))
-        members += [name for name in [crate, *needs] if name not in members]
-    for name in members:
-        if (STAND_IN / f'{name}.rs').exists() and name != 'reach':
-            write_manifest(name, [])
-            write(ROOM / name / 'src' / 'lib.rs', (STAND_IN / f'{name}.rs').read_text(encoding='utf-8'))
+    for path in STAND_IN.glob('*.rs'):
+        write(ROOM / 'reach' / 'src' / path.name, path.read_text(encoding='utf-8'))
+    for crate, needs, is_static in listed():
+        write_manifest(crate, ['reach', *needs], is_static)
+        places += write_crate(crate, len(places), is_static)
+        members.append(crate)
     names = ', '.join(f'"{name}"' for name in members)
     write(ROOM / 'Cargo.toml', f'[workspace]\nresolver = "2"\nmembers = [{names}]\n{PROFILE}')
     return places
@@ -83,11 +82,16 @@ def cargo(*arguments, folder, **variables):
 
 
 def build_crates():
-    return cargo('--target-dir', ROOM / 'target', folder=ROOM)
+    """Builds all; the archive of trm_c gets the library's name, as tools/archive does it."""
+    if not cargo('--target-dir', ROOM / 'target', folder=ROOM):
+        return False
+    ARCHIVE.parent.mkdir(exist_ok=True)
+    shutil.copy(RELEASE / 'libtrm_c.a', ARCHIVE)
+    return True
 
 
 def build_compare():
     """Builds tests/rust/compare with the archive that has counters."""
     return cargo('--package', 'compare', '--target-dir', ROOM / 'compare', folder=ROOT / 'tests' / 'rust',
-                 TRM_ARCHIVE=str(RELEASE), CARGO_PROFILE_RELEASE_OPT_LEVEL='1')
+                 TRM_ARCHIVE=str(ARCHIVE.parent), CARGO_PROFILE_RELEASE_OPT_LEVEL='1')
 

@@ -22,7 +22,7 @@ struct Options {
 }
 
 fn options() -> Result<Options, String> {
-    let mut options = Options { lister: "target/bin/trmlist".into(), rounds: ROUNDS, seed: SEED };
+    let mut options = Options { lister: "crates/trmlist/out/trmlist".into(), rounds: ROUNDS, seed: SEED };
     let mut words = std::env::args().skip(1);
     while let Some(name) = words.next() {
         let value = words.next().ok_or_else(|| format!("{name} needs a value"))?;

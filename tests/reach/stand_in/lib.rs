@@ -1,6 +1,12 @@
 // The counters: each place reached for the first time is added to the file that REACH_FILE names.
 // Paper: nothing; this is about which code the tests run.
-// Also what translated code needs: the wrapping sums of the kit's std, and a slice from C's pointer and length.
+// Also what translated code needs: a slice from C's pointer and length, and in modules of their names what the crates use of the kit's std.
+pub mod fs;
+pub mod io;
+pub mod prelude;
+pub mod rt;
+pub use std::str;
+
 use std::fs::{File, OpenOptions};
 use std::io::Write;
 use std::sync::atomic::{AtomicBool, Ordering};
