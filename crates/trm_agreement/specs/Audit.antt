@@ -10,7 +10,8 @@ use Rattle.std.specs.Prelude.{ℕ, suc, ◌+◌, ◌*◌, ◌≤◌, ◌≡◌, 
 use Rattle.trm_word.specs.Fields.{destination}
 use Rattle.trm_reference.specs.Geometry.{Geometry}
 use Rattle.trm_reference.specs.Visible.{Visible, register}
-use Rattle.trm_reference.specs.Access.{is_load, is_store, to_memory, to_device, target, place_of_word, device_number, stored, loaded, Answer}
+use Rattle.trm_reference.specs.Access.{is_load, is_store, to_memory, to_device, target, place_of_word, device_number, stored, loaded}
+use Rattle.trm_reference.specs.Access.{Answer}
 use Rattle.trm_reference.specs.Access.{silent, answer_of}
 use Rattle.trm_reference.specs.Execute.{execute}
 use Rattle.trm_reference.specs.Interrupt.{interrupted}
@@ -35,7 +36,8 @@ module _ (G : Geometry) (p : List ℕ) (b : Book) where
 -- The answer o of the word w, executed with v seen, n words of memory and the input word i: for a device load its word is the input word,
 -- for a device store it is R.d; without a device access byte and word are zero.
 pub record Answers (w : ℕ) (v : Visible) (n i : ℕ) (o : Answer) : Type 0 where
-  pub reads : to_device w v n ≡ true → is_load w ≡ true → o ≡ record { byte = device_number (place_of_word w v n) * 4 + 1; word = i; done = 1 }
+  pub reads : to_device w v n ≡ true → is_load w ≡ true → o
+      ≡ record { byte = device_number (place_of_word w v n) * 4 + 1; word = i; done = 1 }
   pub writes : to_device w v n ≡ true → is_store w ≡ true
       → o ≡ record { byte = device_number (place_of_word w v n) * 4 + 2; word = register v (destination w); done = 1 }
   pub none : to_device w v n ≡ false → o ≡ silent 1

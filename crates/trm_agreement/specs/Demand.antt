@@ -62,7 +62,8 @@ first_clocks p m s line_bytes inputs k = take k (clock_history paper_geometry p 
 -- run's clocks; k clocks used, and the instructions and answers of these clocks.
 pub record Prefix (p : List ℕ) (m : Machine) (s line_bytes inputs : List ℕ) (k : ℕ) (a : Returned) : Type 0 where
   pub state : lent (machine_left a) (store_left a) ≡ end_of (lent m s) (take k (history_of paper_geometry p (lent m s) line_bytes inputs))
-  pub seen : seen_at paper_geometry (machine_left a) (store_left a) ≡ last_seen (seen_at paper_geometry m s) (first_clocks p m s line_bytes inputs k)
+  pub seen : seen_at paper_geometry (machine_left a) (store_left a)
+      ≡ last_seen (seen_at paper_geometry m s) (first_clocks p m s line_bytes inputs k)
   pub reports : ended_by a ≡ run_ends 0 k (finished_in (answers_in (first_clocks p m s line_bytes inputs k)))
       (bytes_of (answers_in (first_clocks p m s line_bytes inputs k))) (words_of (answers_in (first_clocks p m s line_bytes inputs k)))
 
@@ -101,7 +102,8 @@ pub record Demand3 : Type 0 where
       → run_refusal G p x.machine x.store (take k line_bytes) (take k inputs) (take k bytes) (take k words) ≡ 0
   -- "a second entry lends the record itself for one clock, with the same outcome": whatever the clock by value returns the lent clock
   -- can return too, and nothing else
-  pub lent_too : (m : Machine) (p s : List ℕ) (line_byte input : ℕ) (r : ClockAnswer) (s' : List ℕ) → ShippedValue m p s line_byte input r s'
+  pub lent_too : (m : Machine) (p s : List ℕ) (line_byte input : ℕ) (r : ClockAnswer) (s' : List ℕ)
+      → ShippedValue m p s line_byte input r s'
       → ShippedLent m p s line_byte input r.machine (without_record r) s'
   pub same_outcome : (m : Machine) (p s : List ℕ) (line_byte input : ℕ) (r : ClockAnswer) (s₁ : List ℕ) (m₂ : Machine) (r₂ : LentAnswer)
       (s₂ : List ℕ) → ShippedValue m p s line_byte input r s₁ → ShippedLent m p s line_byte input m₂ r₂ s₂

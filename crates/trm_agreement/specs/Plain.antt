@@ -17,7 +17,8 @@ use Rattle.trm_agreement.specs.Audit.{Answers, Audited, book_at, device_answers}
 
 -- The interrupt rule that both machines share equals the rule in bits, by which demand 3 checks them.
 abbrev pub InterruptRule : Type 0
-InterruptRule = (status line_byte : ℕ) → interrupt_chosen status line_byte ≡ cond (interrupts status line_byte) (interrupt_to status line_byte) 0
+InterruptRule = (status line_byte : ℕ) → interrupt_chosen status line_byte
+    ≡ cond (interrupts status line_byte) (interrupt_to status line_byte) 0
 
 -- What an answer shows, for any word in any state.
 abbrev pub AnswersHold : Type 0

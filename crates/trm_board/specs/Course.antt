@@ -1,7 +1,8 @@
 -- What is claimed of a run of the board from its reset: of its turns ts, and of the devices d that it left, whatever the core inside.
 -- Request A1, each field under its sentence. What holds of every run holds at every clock of it: `before` is the turns before a clock.
 --   Course T ts d     all of it        Busy, tick_by, Follows    its parts
-use Rattle.std.specs.Prelude.{ℕ, ◌+◌, ◌/◌, ◌%◌, ◌<◌, ◌≡◌, ◌≢◌, Bool, true, false, cond, not, ◌&&◌, List, [], ◌∷◌, ◌++◌, length, take, get_or, eqb, leb}
+use Rattle.std.specs.Prelude.{ℕ, ◌+◌, ◌/◌, ◌%◌, ◌<◌, ◌≡◌, ◌≢◌, Bool, true, false, cond, not, ◌&&◌, List, [], ◌∷◌, ◌++◌, length, take}
+use Rattle.std.specs.Prelude.{get_or, eqb, leb}
 use Rattle.trm_serial.specs.Timing.{Timing, frame}
 use Rattle.trm_serial.specs.Serial.{levels, busy, level}
 use Rattle.trm_serial.specs.Moments.{each, none, bytes_of, handed_in as handed_of, replaced_in, unread, on_line, in_time}

@@ -100,7 +100,8 @@ stepped-charge w t = go (eqb (operation w) 8) refl (eqb (operation w) 9) refl t
     go false p false q s = clash s
 
 -- 12 and 13 uncached are charged 5 or 4 waits and a clock for the access
-pub uncached_charge_lem : (w : ℕ) (v : Visible) (n : ℕ) → without_cache w v n ≡ true → charge_of (operation w) + 4 ≡ cond (is_load w) 5 4 + 1
+pub uncached_charge_lem : (w : ℕ) (v : Visible) (n : ℕ) → without_cache w v n ≡ true → charge_of (operation w) + 4
+    ≡ cond (is_load w) 5 4 + 1
 unfolding uncached_charge
 uncached_charge_lem w v n t = waits-are (is-of w v n uncached (uncached_is (kind_of w v n) (sym (kind-is w v n).without ∙ t)))
 

@@ -1,7 +1,8 @@
 -- Claims about the clocked machine beyond the contracts: one statement per field.
 -- Paper: the clock table on any accepted record; row 5; "a device is read or written only in that clock". Proved in
 -- proofs/Theorems.antt.
-use Rattle.std.specs.Prelude.{ℕ, ◌+◌, ◌-◌, ◌*◌, ◌≤◌, ◌≡◌, ◌≢◌, Bool, true, false, cond, not, ◌&&◌, List, [], ◌∷◌, map, length, replicate, eqb}
+use Rattle.std.specs.Prelude.{ℕ, ◌+◌, ◌-◌, ◌*◌, ◌≤◌, ◌≡◌, ◌≢◌, Bool, true, false, cond, not, ◌&&◌, List, [], ◌∷◌, map, length, replicate}
+use Rattle.std.specs.Prelude.{eqb}
 use Rattle.trm_word.specs.Fields.{operation, bit}
 use Rattle.trm_word.specs.Charge.{charge_of}
 use Rattle.trm_word.specs.Address.{store_length_ok}

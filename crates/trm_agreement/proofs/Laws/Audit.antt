@@ -69,7 +69,8 @@ module _ (G : Geometry) (p : List ℕ) where
   -- the book after a clock is the book of the state after it
   turned-is : (q : Reference) (sp hd ch : ℕ) (i : Pins) (k : Kept G p q sp hd ch)
       → let st = clock-step G p q sp hd ch i k in
-      turned G p (book_of q sp hd ch) (seen_of (reference_clock G p q i).state) (went G p (book_of q sp hd ch) i (reference_clock G p q i).out)
+      turned G p (book_of q sp hd ch) (seen_of (reference_clock G p q i).state)
+      (went G p (book_of q sp hd ch) i (reference_clock G p q i).out)
       ≡ book_of (reference_clock G p q i).state st.sp' st.hd' st.ch'
   turned-is q sp hd ch i k = let st = clock-step G p q sp hd ch i k in
       ap (turned G p (book_of q sp hd ch) (seen_of (reference_clock G p q i).state)) st.is ∙ st.next

@@ -218,7 +218,8 @@ module _ (G : Geometry) (p : List ℕ) where
         refills = ap₂ ◌+◌ k.refills (refill-adds G (word_for q) q n)
             ∙ (let f = spent-fills (is_cached (kind_for q) && misses_for q) (charge G (word_for q) q) sp n z s in omega arith);
         writebacks = λ pos. ap₂ ◌+◌ (k.writebacks pos) (writeback_adds G (word_for q) q n)
-            ∙ (let f = spent-writes G pos (kind_for q) (is_store (word_for q)) (misses_for q) (evicts_for q) (dirty_lines G q.history) sp n z
+            ∙ (let f = spent-writes G pos (kind_for q) (is_store (word_for q)) (misses_for q) (evicts_for q) (dirty_lines G q.history) sp n
+            z
             (s ∙ charge-is q) in omega arith);
         wide = k.wide;
       };
@@ -256,7 +257,8 @@ module _ (G : Geometry) (p : List ℕ) where
           (done-fills (is_cached (kind_for q) && misses_for q) (charge G (word_for q) q) sp s ∙ rw (← (tests q).through))
           ∙ sym (joined-fills G (word_for q) q))
           (λ pos. k.writebacks pos ∙ ap (λ x. writebacks_in G q.history + x)
-          (done-writes G pos (kind_for q) (is_store (word_for q)) (misses_for q) (evicts_for q) (dirty_lines G q.history) sp (s ∙ charge-is q)
+          (done-writes G pos (kind_for q) (is_store (word_for q)) (misses_for q) (evicts_for q) (dirty_lines G q.history) sp
+          (s ∙ charge-is q)
           ∙ rw (← (tests q).through, ← (tests q).off)) ∙ sym (joined-writes G (word_for q) q))
           (execute_regs (word_for q) q.visible _ ∙ k.wide);
     }

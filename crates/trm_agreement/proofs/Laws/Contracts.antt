@@ -33,7 +33,8 @@ use Rattle.trm_agreement.specs.Exchange.{Meets, by_value, by_lending, by_run, ow
 shipped_reset_says : (s : List ℕ) (r : ResetAnswer) → ShippedReset s r → ResetNumbered s r
 shipped_reset_says s r h = rw (← h.holds) h.ensures
 
-pub value-says : (m : Machine) (p s : List ℕ) (line_byte input : ℕ) (r : ClockAnswer) (s' : List ℕ) → ShippedValue m p s line_byte input r s'
+pub value-says : (m : Machine) (p s : List ℕ) (line_byte input : ℕ) (r : ClockAnswer) (s' : List ℕ)
+    → ShippedValue m p s line_byte input r s'
     → ClockNumbered m p s line_byte input r s'
 value-says m p s line_byte input r s' h = let e = h.holds in rw (← e.0, ← e.1, ← e.2) h.ensures
 

@@ -87,7 +87,8 @@ refused_reset s₀ m f p s c a h =
     not-zero false z = absurd (omega arith)
 
 same_outcome : (m : Machine) (p s : List ℕ) (line_byte input : ℕ) (r : ClockAnswer) (s₁ : List ℕ) (m₂ : Machine) (r₂ : LentAnswer)
-    (s₂ : List ℕ) → ShippedValue m p s line_byte input r s₁ → ShippedLent m p s line_byte input m₂ r₂ s₂ → (r ≡ with_record m₂ r₂) × (s₁ ≡ s₂)
+    (s₂ : List ℕ) → ShippedValue m p s line_byte input r s₁ → ShippedLent m p s line_byte input m₂ r₂ s₂ → (r ≡ with_record m₂ r₂)
+    × (s₁ ≡ s₂)
 unfolding back
 same_outcome m p s line_byte input r s₁ m₂ r₂ s₂ h g = (
   ap₂ (λ (n : ℕ) (u : After Lent Answer). record {

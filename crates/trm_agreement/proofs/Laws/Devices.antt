@@ -13,7 +13,8 @@ use native.Mathlib.Nat.{mod-lt}
 use Rattle.trm_laws.proofs.Tests.{clash}
 use Rattle.trm_word.specs.Fields.{operation, destination, bit}
 use Rattle.trm_reference.specs.Visible.{Visible, register_index, register, with_register, word_at}
-use Rattle.trm_reference.specs.Access.{is_load, is_store, is_access, is_memory, place_of_word, device_number, to_device, stored, loaded, silent}
+use Rattle.trm_reference.specs.Access.{is_load, is_store, is_access, is_memory, place_of_word, device_number, to_device, stored, loaded}
+use Rattle.trm_reference.specs.Access.{silent}
 use Rattle.trm_reference.specs.Access.{Answer, device_answer, answer_of}
 use Rattle.trm_reference.specs.Execute.{execute}
 use Rattle.trm_reference.specs.Trace.{After, clocks, outs_of}

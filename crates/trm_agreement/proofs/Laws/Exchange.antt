@@ -50,8 +50,10 @@ module _ (p : List ℕ) where
     left : lent (machine_left a) (store_left a) ≡ end_of (lent m s) (clocks_in m s c)
 
   clock-met : (m : Machine) (s : List ℕ) (line_byte input number : ℕ) (left : Machine) (store : List ℕ) (out : Answer)
-      → ClockFacts p m s line_byte input number left store out → Step m s (clock_call line_byte input) (clock_returned number left store out)
-  unfolding clocks_in code_in shown alone ended_by machine_left store_left clocks_of record_engine record_code feed answer clocks end_of entries
+      → ClockFacts p m s line_byte input number left store out
+      → Step m s (clock_call line_byte input) (clock_returned number left store out)
+  unfolding clocks_in code_in shown alone ended_by machine_left store_left clocks_of record_engine record_code feed answer clocks end_of
+      entries
       clock_gives
   clock-met m s line_byte input number left store out h = record {
     show = rw h.number (seen code h.outcome);
@@ -84,7 +86,8 @@ module _ (p : List ℕ) where
   run-met : (m : Machine) (s line_bytes inputs bytes words : List ℕ) (number : ℕ) (left : Machine) (store : List ℕ) (used finished : ℕ)
       (bytes' words' : List ℕ) → RunFacts p m s line_bytes inputs bytes words number left store used finished bytes' words'
       → Step m s (run_call line_bytes inputs bytes words) (run_returned number left store used finished bytes' words')
-  unfolding clocks_in code_in shown clock_history ended_by machine_left store_left record_engine record_code clocks_of feed answer end_of run_gives
+  unfolding clocks_in code_in shown clock_history ended_by machine_left store_left record_engine record_code clocks_of feed answer end_of
+      run_gives
       entries
   run-met m s line_bytes inputs bytes words number left store used finished bytes' words' h = record {
     show = rw h.number (seen (eqb code 0));
@@ -197,7 +200,8 @@ module _ (p : List ℕ) (m : Machine) (s : List ℕ) (k : ℕ) (is : List Pins) 
   history-seen : record_seen paper_geometry (end_of (lent m s) (take k (clocks (clock_of paper_geometry p) (lent m s) is)))
       ≡ last_seen (seen_at paper_geometry m s) (take k (clock_history paper_geometry p m s is))
   unfolding clock_history record_engine
-  history-seen = sym (ap (last_seen (seen_at paper_geometry m s)) (entries-take feed answer (record_engine paper_geometry p) k (lent m s) is)
+  history-seen = sym (ap (last_seen (seen_at paper_geometry m s))
+      (entries-take feed answer (record_engine paper_geometry p) k (lent m s) is)
       ∙ entries-last feed answer (record_engine paper_geometry p) (lent m s) (take k is)
       ∙ ap (λ ts. record_seen paper_geometry (end_of (lent m s) ts)) (sym (clocks-take (clock_of paper_geometry p) k (lent m s) is)))
 

@@ -44,7 +44,8 @@ taken_in-bits status line_byte = rw (interrupt_rule status line_byte) (go (inter
     go true false = refl
     go false a = refl
 
-pub goes_to : (status line_byte : ℕ) → interrupts status line_byte ≡ true → interrupt_chosen status line_byte ≡ interrupt_to status line_byte
+pub goes_to : (status line_byte : ℕ) → interrupts status line_byte ≡ true → interrupt_chosen status line_byte
+    ≡ interrupt_to status line_byte
 goes_to status line_byte e = interrupt_rule status line_byte ∙ rw e
 
 -- what a clock shows that executes a word or does not; t is true for an interrupt

@@ -44,7 +44,8 @@ number_is code (clock_call line_byte input) outs = refl
 number_is code (run_call line_bytes inputs bytes words) outs = go (eqb code 0) refl
   where
     go : (t : Bool) → eqb code 0 ≡ t
-        → number_of (cond t (run_ends 0 (length line_bytes) (finished_in outs) (bytes_of outs) (words_of outs)) (run_ends code 0 0 bytes words)) ≡
+        → number_of (cond t (run_ends 0 (length line_bytes) (finished_in outs) (bytes_of outs) (words_of outs))
+        (run_ends code 0 0 bytes words)) ≡
         code
     go true e = sym (eqb-true code 0 e)
     go false e = refl

@@ -16,13 +16,15 @@ use Rattle.trm_reference.specs.Access.{Answer}
 use Rattle.trm_reference.specs.Interrupt.{stalled, interrupt_chosen}
 use Rattle.trm_reference.specs.History.{since}
 use Rattle.trm_reference.specs.Trace.{Pins, After, pins_of}
-use Rattle.trm_reference.specs.Reference.{Reference, charge, carry_out, spend, take_off, reference_held, reference_interrupt, reference_unheld}
+use Rattle.trm_reference.specs.Reference.{Reference, charge, carry_out, spend, take_off, reference_held, reference_interrupt}
+use Rattle.trm_reference.specs.Reference.{reference_unheld}
 use Rattle.trm_reference.specs.Reference.{reference_clock, reference_reset}
 use Rattle.trm_reference.proofs.Laws.Trace.{pins-length}
 use Rattle.trm_cache.specs.Cache.{line_at, view}
 use Rattle.trm_core.specs.Record.{Lent, cache_of, reset_of}
 use Rattle.trm_core.specs.Clock.{clock_of}
-use Rattle.trm_core.specs.Refusals.{all_at_most, program_ok, store_ok, record_rows, count_row, clock_rows, line_bytes_refused, run_rows, reset_refusal}
+use Rattle.trm_core.specs.Refusals.{all_at_most, program_ok, store_ok, record_rows, count_row, clock_rows, line_bytes_refused, run_rows}
+use Rattle.trm_core.specs.Refusals.{reset_refusal}
 use Rattle.trm_core.specs.Refusals.{clock_refusal, run_refusal}
 use Rattle.trm_core.specs.Rule.{record_ok}
 use Rattle.trm_core.proofs.Laws.Fit.{Fit, fit, any-line_in}
@@ -199,7 +201,8 @@ module _ (G : Geometry) (p s : List ℕ) where
       through a h = unfold view in (empty-view G g.wpos s (line_at G (first G) (line_of G (block_of G a))) a
           (first-line G (line_of G (block_of G a)) (any-line_in G g.lpos (block_of G a))).0)
 
-  pub reset-tied : geometry_ok G ≡ true → reset_refusal s ≡ 0 → Tied G p 0 (record { machine = reset_of G s; store = s }) (reference_reset s)
+  pub reset-tied : geometry_ok G ≡ true → reset_refusal s ≡ 0
+      → Tied G p 0 (record { machine = reset_of G s; store = s }) (reference_reset s)
   reset-tied e r = tied-reset (fit G (length s) e (reset_legal s r)) (reset_legal s r)
 
   pub same_log : (cs : List Call) → geometry_ok G ≡ true → reset_refusal s ≡ 0

@@ -4,7 +4,9 @@
 --   magnitude, -le, -plus, -minus      |B|                     rem_is, quot_is   the registers for A above 0
 --   registers-none, div-start, div-closed, div-step            both 0 for A not above 0; before, after k, one step more
 --   taken-lt                           how many bits t has
-use Rattle.std.proofs.Common.{◌≡◌, ℕ, ◌+◌, ◌-◌, ◌*◌, ◌/◌, ◌%◌, ◌^◌, ◌<◌, ◌≤◌, Bool, true, false, cond, ltb, nat_abs, sym, refl, ap, ◌∙◌, subst, ap₂, lt_of_le_of_lt, mod-lt, mul_assoc, mul_comm, add-mul, div-add-mod', div-le_self, arith, shr-shr, shr_lt, ltb-false, ltb-true, lt-ltb}
+use Rattle.std.proofs.Common.{◌≡◌, ℕ, ◌+◌, ◌-◌, ◌*◌, ◌/◌, ◌%◌, ◌^◌, ◌<◌, ◌≤◌, Bool, true, false, cond, ltb, nat_abs, sym, refl, ap, ◌∙◌}
+use Rattle.std.proofs.Common.{subst, ap₂, lt_of_le_of_lt, mod-lt, mul_assoc, mul_comm, add-mul, div-add-mod', div-le_self, arith, shr-shr}
+use Rattle.std.proofs.Common.{shr_lt, ltb-false, ltb-true, lt-ltb}
 use mathlib.Core.Bool.{and-eq-true_iff}
 use native.Mathlib.Nat.{zero-mod, zero-div}
 use lib.Arith.{digits_div, digits_mod}

@@ -1,6 +1,7 @@
 -- The words of DIV are those of the quotient rounded down: Q × A + R = B, and R is 0 to A − 1. So are those of MUL, by 2^32.
 -- The law holds for the signed quotient, by cases of the sign; the quotient fits 32 bits, so its word represents it.
-use Rattle.std.proofs.Common.{◌≡◌, ℕ, zero, suc, ◌+◌, ◌-◌, ◌*◌, ◌/◌, ◌%◌, ◌^◌, ◌<◌, ◌≤◌, true, ℤ, pos, negsuc, ◌+ℤ◌, ◌*ℤ◌, neg_ℤ, refl, ap, lt_of_le_of_lt, mod-lt, suc-mul, mul-le-mul, div-add-mod', div-le_self, arith, lit<, le-ltb, lt-ltb}
+use Rattle.std.proofs.Common.{◌≡◌, ℕ, zero, suc, ◌+◌, ◌-◌, ◌*◌, ◌/◌, ◌%◌, ◌^◌, ◌<◌, ◌≤◌, true, ℤ, pos, negsuc, ◌+ℤ◌, ◌*ℤ◌, neg_ℤ, refl, ap}
+use Rattle.std.proofs.Common.{lt_of_le_of_lt, mod-lt, suc-mul, mul-le-mul, div-add-mod', div-le_self, arith, lit<, le-ltb, lt-ltb}
 use Rattle.trm_alu.specs.Word.{signed, word}
 use Rattle.trm_alu.specs.Multiply.{product, low_word, high_word}
 use Rattle.trm_alu.specs.Divide.{above0, floor_div, floor_mod, quotient, remainder}

@@ -3,7 +3,8 @@
 --   pow-split, mul_pow_next   a power as a product       sub-wrapped   the value of a wrapping difference
 --   shl_mod, parts-lt         the value of a shift, and a bound with a number below 2^j added
 --   shl-next                  the value of a shift of one bit more
-use Rattle.std.proofs.Common.{◌≡◌, ℕ, ◌+◌, ◌-◌, ◌*◌, ◌/◌, ◌%◌, ◌^◌, ◌<◌, ◌≤◌, sym, ap, ◌∙◌, subst, add-zero, mod-lt, mod-eq_of_lt, mul_assoc, add-mul, arith, pow_pos, pow-add}
+use Rattle.std.proofs.Common.{◌≡◌, ℕ, ◌+◌, ◌-◌, ◌*◌, ◌/◌, ◌%◌, ◌^◌, ◌<◌, ◌≤◌, sym, ap, ◌∙◌, subst, add-zero, mod-lt, mod-eq_of_lt}
+use Rattle.std.proofs.Common.{mul_assoc, add-mul, arith, pow_pos, pow-add}
 use native.Mathlib.Nat.{mod-add-mod, add-mod_right, mul-mod_left}
 use lib.Arith.{digits_lt}
 use lib.Pow.{mod-pow-add, shl-shr}

@@ -1,6 +1,7 @@
 -- One step of the multiplier takes the register after k steps to that after k + 1.
 -- On the register plus 2^63 a step halves and adds 2^62; if A's bit is set it also adds B × 2^31, or subtracts it in the last step.
-use Rattle.std.proofs.Common.{◌≡◌, ℕ, zero, suc, ◌+◌, ◌-◌, ◌*◌, ◌/◌, ◌%◌, ◌^◌, ◌<◌, ◌≤◌, Bool, true, false, eqb, sym, refl, ap, ◌∙◌, ap₂, mul_assoc, one-mul, zero-mul, mul-add, mul_left_comm, arith, lit<, shr-shr, eqb-true}
+use Rattle.std.proofs.Common.{◌≡◌, ℕ, zero, suc, ◌+◌, ◌-◌, ◌*◌, ◌/◌, ◌%◌, ◌^◌, ◌<◌, ◌≤◌, Bool, true, false, eqb, sym, refl, ap, ◌∙◌, ap₂}
+use Rattle.std.proofs.Common.{mul_assoc, one-mul, zero-mul, mul-add, mul_left_comm, arith, lit<, shr-shr, eqb-true}
 use native.Mathlib.Nat.{mod-add-mod, add-mod-mod}
 use borrow.Author.Tests.{eqb-false}
 use Rattle.trm_alu.specs.Word.{biased}

@@ -3,7 +3,8 @@
 --   top a k, top-fits     T, and its bound                     upper-half-is   B × 2^31 as a 64-bit word
 --   partial-word, known   the register for k below 32 from its offset number, and back
 --   product-word          the register from 32 on              mul-start, mul-end   the first value; the words of the last
-use Rattle.std.proofs.Common.{◌≡◌, ℕ, suc, ◌+◌, ◌-◌, ◌*◌, ◌/◌, ◌%◌, ◌^◌, ◌<◌, ◌≤◌, Bool, cond, ℤ, pos, negsuc, ◌*ℤ◌, sym, refl, ap, ◌∙◌, subst, mul-le-mul_right, mul-zero, mul-add, div-one, arith, lit<, shr_lt, le-ltb, lt-ltb}
+use Rattle.std.proofs.Common.{◌≡◌, ℕ, suc, ◌+◌, ◌-◌, ◌*◌, ◌/◌, ◌%◌, ◌^◌, ◌<◌, ◌≤◌, Bool, cond, ℤ, pos, negsuc, ◌*ℤ◌, sym, refl, ap, ◌∙◌}
+use Rattle.std.proofs.Common.{subst, mul-le-mul_right, mul-zero, mul-add, div-one, arith, lit<, shr_lt, le-ltb, lt-ltb}
 use native.Mathlib.Nat.{mod-one}
 use lib.IntN.{*ℤ-negsuc}
 use Rattle.trm_alu.specs.Word.{signed, word, biased}

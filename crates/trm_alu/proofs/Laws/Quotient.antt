@@ -1,6 +1,7 @@
 -- The signed quotient and remainder from the divider's registers after 32 steps, r and q.
 -- q and r are those of |B|; for B = −(n + 1) the definition uses those of n: q − 1 and A − 1 if r is 0, else q and r − 1.
-use Rattle.std.proofs.Common.{◌≡◌, ℕ, zero, suc, ◌+◌, ◌-◌, ◌*◌, ◌/◌, ◌%◌, ◌^◌, ◌<◌, ◌≤◌, true, false, sym, refl, ap, ◌∙◌, mod-lt, suc-mul, div-add-mod', zero-mul, div-le_self, div-one, arith}
+use Rattle.std.proofs.Common.{◌≡◌, ℕ, zero, suc, ◌+◌, ◌-◌, ◌*◌, ◌/◌, ◌%◌, ◌^◌, ◌<◌, ◌≤◌, true, false, sym, refl, ap, ◌∙◌, mod-lt, suc-mul}
+use Rattle.std.proofs.Common.{div-add-mod', zero-mul, div-le_self, div-one, arith}
 use native.Mathlib.Nat.{mod-one}
 use Rattle.trm_alu.specs.declared.inner.divide.Divided.{Divided}
 use Rattle.trm_alu.specs.Word.{word}

@@ -3,7 +3,9 @@
 --   Sign, sign           a word by its sign                OffBy h z n   n is z + h, and z is from −h to h − 1
 --   word_lt, off-word    a number's word: its bound, and its value from the offset number
 --   off-difference, off-negation, off-multiple, off-times   the offsets of y − x, −z, B × t + y, B × t
-use Rattle.std.proofs.Common.{◌≡◌, ℕ, zero, suc, ◌+◌, ◌-◌, ◌*◌, ◌%◌, ◌^◌, ◌<◌, ◌≤◌, Bool, true, false, ltb, ℤ, pos, negsuc, ◌+ℤ◌, ◌*ℤ◌, neg_ℤ, sym, refl, ap, ◌∙◌, subst, mul-le-mul_right, mod-lt, mod-eq_of_lt, add-mul, arith, pow_pos, ltb-false, ltb-true}
+use Rattle.std.proofs.Common.{◌≡◌, ℕ, zero, suc, ◌+◌, ◌-◌, ◌*◌, ◌%◌, ◌^◌, ◌<◌, ◌≤◌, Bool, true, false, ltb, ℤ, pos, negsuc, ◌+ℤ◌, ◌*ℤ◌}
+use Rattle.std.proofs.Common.{neg_ℤ, sym, refl, ap, ◌∙◌, subst, mul-le-mul_right, mod-lt, mod-eq_of_lt, add-mul, arith, pow_pos, ltb-false}
+use Rattle.std.proofs.Common.{ltb-true}
 use native.Mathlib.Nat.{le-pred_of_lt, add-mod_right}
 use lib.IntN.{+ℤ_idr}
 use Rattle.trm_alu.specs.Word.{signed, word, biased}

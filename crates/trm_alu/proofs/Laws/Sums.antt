@@ -3,7 +3,8 @@
 --   off-sum, off-exact_difference   the offset numbers        sum_is, difference-is   the results
 --   quotient-flag, overflow-is      the flags                 carry-out, carry-no_borrow   a result with its carry
 --   difference-zero                 Z of SUB
-use Rattle.std.proofs.Common.{◌≡◌, ℕ, zero, suc, ◌+◌, ◌-◌, ◌*◌, ◌/◌, ◌%◌, ◌^◌, ◌<◌, ◌≤◌, Bool, true, false, eqb, leb, ◌⊎◌, ℤ, pos, negsuc, ◌+ℤ◌, ◌-ℤ◌, neg_ℤ, sym, refl, ap, ◌∙◌, inl, inr, add-zero, arith, leb-false, leb-true}
+use Rattle.std.proofs.Common.{◌≡◌, ℕ, zero, suc, ◌+◌, ◌-◌, ◌*◌, ◌/◌, ◌%◌, ◌^◌, ◌<◌, ◌≤◌, Bool, true, false, eqb, leb, ◌⊎◌, ℤ, pos, negsuc}
+use Rattle.std.proofs.Common.{◌+ℤ◌, ◌-ℤ◌, neg_ℤ, sym, refl, ap, ◌∙◌, inl, inr, add-zero, arith, leb-false, leb-true}
 use native.Mathlib.Nat.{add-mod}
 use lib.Arith.{digits_div}
 use lib.IntN.{+ℤ_comm}

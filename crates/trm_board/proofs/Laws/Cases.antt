@@ -2,7 +2,8 @@
 use mathlib.Core.Path.{◌≡◌, refl}
 use mathlib.Core.Bool.{true}
 use Rattle.trm_serial.specs.Timing.{frame, stop_sample}
-use Rattle.trm_serial.specs.Serial.{level, busy, left_after, sent_after, ready_after, waits, stops, samples, gathered, listened, serial_clock}
+use Rattle.trm_serial.specs.Serial.{level, busy, left_after, sent_after, ready_after, waits, stops, samples, gathered, listened}
+use Rattle.trm_serial.specs.Serial.{serial_clock}
 use Rattle.trm_serial.specs.Cases.{same}
 use Rattle.trm_clock_device.specs.Device.{device_read}
 use Rattle.trm_board.specs.Core.{asked}

@@ -12,7 +12,8 @@ use Rattle.trm_reference.specs.Visible.{Visible, word_at}
 use Rattle.trm_reference.specs.Access.{is_store, to_device, place_of_word, device_number, stored, Answer, silent, device_answer, answer_of}
 use Rattle.trm_reference.specs.Interrupt.{stalled, interrupt_chosen}
 use Rattle.trm_reference.specs.Trace.{Pins, After, clocks}
-use Rattle.trm_reference.specs.Reference.{Reference, charge, carry_out, spend, take_off, reference_held, reference_interrupt, reference_unheld}
+use Rattle.trm_reference.specs.Reference.{Reference, charge, carry_out, spend, take_off, reference_held, reference_interrupt}
+use Rattle.trm_reference.specs.Reference.{reference_unheld}
 use Rattle.trm_reference.specs.Reference.{reference_clock}
 use Rattle.trm_clock_device.specs.Device.{device_read}
 use Rattle.trm_serial.specs.Timing.{paper_timing}
@@ -89,7 +90,8 @@ module _ (p : List ℕ) where
   core-entries q fs = entries core_feed core_answer (reference_engine paper_geometry p) (clocks (reference_clock paper_geometry p) q fs) fs
 
   core-next : (y : Board Reference) (i : Inputs)
-      → (plain_step y i).state.core ≡ (reference_clock paper_geometry p y.core (fed paper_timing (reference_core paper_geometry p) y i)).state
+      → (plain_step y i).state.core ≡ (reference_clock paper_geometry p y.core
+      (fed paper_timing (reference_core paper_geometry p) y i)).state
   unfolding board_clock
   core-next y i = refl
 

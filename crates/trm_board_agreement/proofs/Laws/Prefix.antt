@@ -52,7 +52,8 @@ prefix-of p b s gs ws lv bs os lv₀ bs₀ os₀ j k (run_returned number left s
       ∙ ap₂ (λ n ts. ends n (outs_of ts)) (length-take-le k gs few) history;
 }
   where
-    history : board_history p (board_of b s) (run_inputs j (take k gs) (take k ws)) ≡ take k (board_history p (board_of b s) (run_inputs j gs ws))
+    history : board_history p (board_of b s) (run_inputs j (take k gs) (take k ws))
+        ≡ take k (board_history p (board_of b s) (run_inputs j gs ws))
     history = history-take p (board_of b s) j k gs ws
 
     taken : ran_of left store used finished lv' bs' os' ≡ board_run_of p (board_of b s) j (take k gs) (take k ws)

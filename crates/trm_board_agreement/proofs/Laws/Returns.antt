@@ -53,7 +53,8 @@ module _ (p : List ℕ) where
   clock-met : (b : Board) (s : List ℕ) (joined : Bool) (given switches number : ℕ) (left : Board) (store : List ℕ) (out : Shown)
       → ClockFacts p b s joined given switches number left store out
       → Step b s (clock_call joined given switches) (clock_returned number left store out)
-  unfolding clocks_in code_in shown alone ended_by board_left store_left clocks_of record_board record_code feed answer clocks end_of entries
+  unfolding clocks_in code_in shown alone ended_by board_left store_left clocks_of record_board record_code feed answer clocks end_of
+      entries
       board_clock_gives
   clock-met b s joined given switches number left store out h = record {
     show = rw h.number (seen code h.outcome);
@@ -86,7 +87,8 @@ module _ (p : List ℕ) where
   run-met : (b : Board) (s : List ℕ) (joined : Bool) (gs ws lv bs os : List ℕ) (number : ℕ) (left : Board) (store : List ℕ)
       (used finished : ℕ) (lv' bs' os' : List ℕ) → RunFacts p b s joined gs ws lv bs os number left store used finished lv' bs' os'
       → Step b s (run_call joined gs ws lv bs os) (run_returned number left store used finished lv' bs' os')
-  unfolding clocks_in code_in shown clock_history ended_by board_left store_left record_board record_code clocks_of feed answer end_of board_run_gives
+  unfolding clocks_in code_in shown clock_history ended_by board_left store_left record_board record_code clocks_of feed answer end_of
+      board_run_gives
       board_run_of entries
   run-met b s joined gs ws lv bs os number left store used finished lv' bs' os' h = record {
     show = rw h.number (seen (eqb code 0));

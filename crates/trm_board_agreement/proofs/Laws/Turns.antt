@@ -42,7 +42,8 @@ module _ (p : List ℕ) where
   abbrev fed_by : Board Lent → List BoardCall → List Inputs
   fed_by x cs = fed_of feed answer (record_board p) x cs
 
-  pub end_is : (x : Board Lent) (is : List Inputs) → board_end paper_timing (record_core paper_geometry p) x is ≡ end_of x (clocks step x is)
+  pub end_is : (x : Board Lent) (is : List Inputs) → board_end paper_timing (record_core paper_geometry p) x is
+      ≡ end_of x (clocks step x is)
   unfolding board_end end_of clocks
   end_is x [] = refl
   end_is x (i ∷ is) = end_is (step x i).state is

@@ -48,7 +48,8 @@ pub lines_next : (tick at i : ℕ) (gs ls : List ℕ) (l : ℕ) → at + i < len
     → take i ls ≡ lines_of tick (take i (drop at gs)) → l ≡ line_for tick (get_or gs (at + i) 0)
     → take (i + 1) (set ls i l) ≡ lines_of tick (take (i + 1) (drop at gs))
 lines_next tick at i gs ls l below fits e q = ap (λ n. take n (set ls i l)) (add-one i) ∙ take-suc-set ls i l fits
-    ∙ ap (λ t. t ++ l ∷ []) e ∙ ap (λ n. lines_of tick (take i (drop at gs)) ++ n ∷ []) (q ∙ ap (line_for tick) (sym (get_or-drop at gs i 0)))
+    ∙ ap (λ t. t ++ l ∷ []) e ∙ ap (λ n. lines_of tick (take i (drop at gs)) ++ n ∷ [])
+    (q ∙ ap (line_for tick) (sym (get_or-drop at gs i 0)))
     ∙ sym (lines_more tick (take i (drop at gs)) (get_or (drop at gs) i 0))
     ∙ ap (lines_of tick) (sym (take-suc (drop at gs) i 0 (omega (arith, length-drop at gs, below))))
     ∙ ap (λ n. lines_of tick (take n (drop at gs))) (sym (add-one i))

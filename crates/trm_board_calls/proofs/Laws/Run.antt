@@ -159,7 +159,8 @@ module _ (p : List ℕ) (joined : Bool) where
 
           count-is : fin ≡ finished_in (answers_of (outs_of (coming x₀ 0)))
           count-is = (let q = g.count in let n = ap (λ ts. finished_in (answers_of (outs_of ts))) none in
-              let z : finished_in (answers_of (outs_of {S = Board Lent} [])) ≡ 0 = unfold finished_in answers_of outs_of in refl in omega arith)
+              let z : finished_in (answers_of (outs_of {S = Board Lent} []))
+              ≡ 0 = unfold finished_in answers_of outs_of in refl in omega arith)
 
           over : (f : Shown → ℕ) (v v₀ : List ℕ) → filled f v at (outs_of (coming x at)) ≡ filled f v₀ 0 (outs_of (coming x₀ 0))
               → length v₀ ≡ length gs → v ≡ column f (outs_of (coming x₀ 0))

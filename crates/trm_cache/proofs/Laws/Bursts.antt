@@ -77,7 +77,8 @@ module _ (G : Geometry) (wpos : 0 < G.words) where
       same : (b : ℕ) → holds ln b ≡ holds (line_at G ls l) b
       same b = unfold holds in rw (f, f', b')
 
-      here : (a : ℕ) → line_of G (block_of G a) ≡ l → line_view G ln (write_word G (line_at G ls l) s c) a ≡ line_view G (line_at G ls l) s a
+      here : (a : ℕ) → line_of G (block_of G a) ≡ l → line_view G ln (write_word G (line_at G ls l) s c) a
+          ≡ line_view G (line_at G ls l) s a
       here a e = rw (same (block_of G a), w') (go (holds (line_at G ls l) (block_of G a)) refl)
         where
           go : (b : Bool) → holds (line_at G ls l) (block_of G a) ≡ b

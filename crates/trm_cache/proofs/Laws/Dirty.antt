@@ -113,7 +113,8 @@ empty_to-at G ls (suc n) l h wd g = go (ℕ_discrete l n) (λ hl. empty_to-at G 
     go (yes q) ih = rw q (bc.here ∙ ap empty_line (empty_to-other G ls n n (omega arith) wd (omega arith)))
     go (no q) ih = bc.there l q ∙ ih (omega arith)
 
-pub emptied-at : (G : Geometry) (ls : Cache) (l : ℕ) → Wide G ls → l < G.lines → line_at G (all_emptied G ls) l ≡ empty_line (line_at G ls l)
+pub emptied-at : (G : Geometry) (ls : Cache) (l : ℕ) → Wide G ls → l < G.lines → line_at G (all_emptied G ls) l
+    ≡ empty_line (line_at G ls l)
 unfolding all_emptied
 emptied-at G ls l wd h = empty_to-at G ls G.lines l (omega arith) wd h
 

@@ -10,7 +10,8 @@ ghost use Rattle.trm_reference.specs.Charge.{turns_cache_off};
 ghost use Rattle.trm_cache.specs.Cache.{cache, line_at, count_dirty};
 ghost use Rattle.trm_core.specs.Record.{gathered, whole, product_at, remainder_at, quotient_at};
 ghost use Rattle.trm_core.specs.Clock.{line_for, hits};
-ghost use Rattle.trm_core.specs.Rule.{widths_ok, counts_ok, registers_ok, arithmetic_ok, writeback_ok, refill_ok, wait_ok, due_ok, phase_ok};
+ghost use Rattle.trm_core.specs.Rule.{widths_ok, counts_ok, registers_ok, arithmetic_ok};
+ghost use Rattle.trm_core.specs.Rule.{writeback_ok, refill_ok, wait_ok, due_ok, phase_ok};
 ghost use Rattle.trm_core.specs.Rule.{marks_ok, line_ok, lines_ok, record_ok};
 
 use trm_alu::inner::divide::Divider;

@@ -14,7 +14,8 @@ use Rattle.trm_word.specs.Charge.{charge_of}
 use Rattle.trm_word.specs.declared.inner.address.Place.TheVariants.{Device, Memory}
 use Rattle.trm_reference.specs.Geometry.{paper_geometry, block_of, line_of}
 use Rattle.trm_reference.specs.Visible.{Visible, cache_on}
-use Rattle.trm_reference.specs.Access.{is_load, is_store, is_access, is_memory, memory_index, place_of_word, target, target_block, target_line}
+use Rattle.trm_reference.specs.Access.{is_load, is_store, is_access, is_memory, memory_index, place_of_word, target, target_block}
+use Rattle.trm_reference.specs.Access.{target_line}
 use Rattle.trm_reference.specs.Execute.{branch_taken}
 use Rattle.trm_reference.specs.Charge.{is_stepped, is_jump, takes_branch, turns_cache_off}
 use Rattle.trm_cache.specs.Cache.{Cache, line_at, holds}

@@ -14,7 +14,8 @@ use Rattle.trm_word.specs.Address.{store_length_ok}
 use Rattle.trm_word.specs.declared.inner.address.Place.TheVariants.{Device, Memory}
 use Rattle.trm_reference.specs.Geometry.{paper_geometry, block_of, line_of}
 use Rattle.trm_reference.specs.Visible.{Visible, cache_on}
-use Rattle.trm_reference.specs.Access.{is_load, is_store, is_access, is_memory, memory_index, place_of_word, to_memory, target, target_block}
+use Rattle.trm_reference.specs.Access.{is_load, is_store, is_access, is_memory, memory_index, place_of_word, to_memory, target}
+use Rattle.trm_reference.specs.Access.{target_block}
 use Rattle.trm_reference.specs.Access.{target_line, stored, loaded, Answer, answer_of}
 use Rattle.trm_reference.specs.Execute.{execute}
 use Rattle.trm_reference.specs.Charge.{through_cache, without_cache, turns_cache_off}
@@ -52,7 +53,8 @@ module _ (w n : ℕ) (v : Visible) (ca : Cache) where
 
   pub cached-cache : operation w ≡ 13 → (a : ℕ) → place_of_word w v n ≡ Memory a → cache_on v ≡ true
       → cache_after paper_geometry w n v ca ≡ stored_to paper_geometry ca (a / 8 % 16) (a % 8) (stored w v)
-  unfolding cache_after through_cache to_memory is_access is_load is_store is_memory target_line target_block line_of block_of target memory_index
+  unfolding cache_after through_cache to_memory is_access is_load is_store is_memory target_line target_block line_of block_of target
+      memory_index
   cached-cache o a p on = rw (p, o, on)
 
   pub uncached_cache : operation w ≡ 13 → cache_on v ≡ false → cache_after paper_geometry w n v ca ≡ ca

@@ -56,7 +56,8 @@ module _ (w n : ℕ) (c : Scalars) (rs : List ℕ) (ca : Cache) where
       taken : operation w ≡ 14
           → (eqb (operation w) 14 && branch_taken w v) || (eqb (operation w) 11 && eqb (bit 10 w) 1) || eqb (operation w) 15 ≡ true
           → branch_taken w v ≡ true
-      taken o t = go (branch_taken w v) (subst (λ k. (eqb k 14 && branch_taken w v) || (eqb k 11 && eqb (bit 10 w) 1) || eqb k 15 ≡ true) o t)
+      taken o t = go (branch_taken w v) (subst (λ k. (eqb k 14 && branch_taken w v) || (eqb k 11 && eqb (bit 10 w) 1) || eqb k 15 ≡ true) o
+          t)
         where
           go : (x : Bool) → (true && x) || (false && eqb (bit 10 w) 1) || false ≡ true → x ≡ true
           go true e = refl

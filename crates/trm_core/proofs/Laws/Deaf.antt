@@ -13,7 +13,8 @@ use Rattle.trm_word.specs.Fields.{operation, bit}
 use Rattle.trm_reference.specs.Geometry.{Geometry, burst}
 use Rattle.trm_reference.specs.Charge.{is_stepped, through_cache, without_cache, turns_cache_off}
 use Rattle.trm_reference.specs.Visible.{Visible, word_at}
-use Rattle.trm_reference.specs.Access.{is_load, is_store, is_access, is_memory, place_of_word, device_number, to_device, target, stored, loaded}
+use Rattle.trm_reference.specs.Access.{is_load, is_store, is_access, is_memory, place_of_word, device_number, to_device, target, stored}
+use Rattle.trm_reference.specs.Access.{loaded}
 use Rattle.trm_reference.specs.Access.{Answer, target_block, target_line, silent, device_answer, answer_of}
 use Rattle.trm_reference.specs.Execute.{execute}
 use Rattle.trm_reference.specs.Interrupt.{stalled, interrupt_chosen, interrupted}
@@ -47,7 +48,11 @@ finish_deaf G w n m s i j = go (is_memory (place_of_word w (visible_of m) n)) (i
     x = view G (cache_of m) s (target w (visible_of m) n)
 
     out : Bool → ℕ → Answer
-    out st k = cond st (record { byte = device_number (place_of_word w (visible_of m) n) * 4 + 2; word = stored w (visible_of m); done = 1 })
+    out st k = cond st (record {
+      byte = device_number (place_of_word w (visible_of m) n) * 4 + 2;
+      word = stored w (visible_of m);
+      done = 1;
+    })
         (record { byte = device_number (place_of_word w (visible_of m) n) * 4 + 1; word = k; done = 1 })
 
     end : Bool → Bool → Bool → ℕ → After Lent Answer

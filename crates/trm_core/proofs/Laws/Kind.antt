@@ -143,7 +143,8 @@ operation-is o h = go (eqb o 8) refl (eqb o 9) refl (eqb o 11) refl (eqb o 12) r
     go false p false q false r false s false t false u false x y = other p q r s t u x (eqb-true (charge_of o) 1 y)
 
 -- the record of facts from its fields in order
-facts : {k : Kind} {w : ℕ} {v : Visible} {n : ℕ} → is_stepped w ≡ is_longer k → to_memory w v n ≡ in_memory k → to_device w v n ≡ is_device k
+facts : {k : Kind} {w : ℕ} {v : Visible} {n : ℕ} → is_stepped w ≡ is_longer k → to_memory w v n ≡ in_memory k → to_device w v n
+    ≡ is_device k
     → through_cache w v n ≡ is_cached k → without_cache w v n ≡ is_uncached k → turns_cache_off w v ≡ is_clearing k
     → takes_branch w v || is_jump w || eqb (operation w) 15 ≡ is_second k → CacheBy k (cache_on v) → CostBy k w
     → ((G : Geometry) (misses evicts : Bool) (dirty : ℕ)

@@ -51,15 +51,18 @@ test_true (r ∷ rs) t =
 pub refusals_hold : RefusalsHold
 unfolding test how_many store_length_ok signed word product low_word high_word partial_product mul_after above0 floor_div floor_mod quotient
     remainder taken div_rem div_quot exact_sum exact_difference sum difference ror short_result result_of high_of too_wide
-    carry_of_add carry_of_sub overflow_of_add overflow_of_sub sign_flag zero_flag carry_after overflow_after flags_after flags_of burst block_of
+    carry_of_add carry_of_sub overflow_of_add overflow_of_sub sign_flag zero_flag carry_after overflow_after flags_after flags_of burst
+    block_of
     line_of register_index register with_register cache_on with_mode next_pc word_at is_load is_store address_of place_of_word is_memory
     memory_index device_number is_access to_memory to_device target target_block target_line stored loaded device_answer answer_of operand_a
     operand_b calculated status_set returned jumped branch_taken branch_target branched called execute stalled interrupt_raised
     interrupt_chosen saved_word interrupted is_stepped is_jump takes_branch through_cache without_cache turns_cache_off miss_charge
     uncached_charge charge_by pins_of clocks line_at holds line_view view write_word fill_word count_dirty lowest first_dirty empty_to
-    all_emptied product_at remainder_at quotient_at reset_of line_for hits charge_here is_last cache_after store_after finish written writing
+    all_emptied product_at remainder_at quotient_at reset_of line_for hits charge_here is_last cache_after store_after finish written
+    writing
     filling missing first_clock write_line advance worked unheld held_clock clock_of widths_ok counts_ok registers_ok arithmetic_ok
     writeback_ok refill_ok wait_ok due_ok phase_ok line_ok marks_ok all_below lines_ok record_ok all_at_most program_ok store_ok record_rows
-    count_row clock_rows line_bytes_refused run_rows reset_refusal clock_refusal run_refusal look_refusal copy_refusal watch_refusal below program
+    count_row clock_rows line_bytes_refused run_rows reset_refusal clock_refusal run_refusal look_refusal copy_refusal watch_refusal below
+    program
     spread line_byte_spans pins first_store record_history clocked_in scenario_after total rows
 refusals_hold = test_true rows refl

@@ -38,7 +38,8 @@ use Rattle.trm_core.specs.Claims.{ScenarioHolds}
 pub scenario_holds : ScenarioHolds
 unfolding same signed word product low_word high_word partial_product mul_after above0 floor_div floor_mod quotient remainder taken div_rem
     div_quot exact_sum exact_difference sum difference ror short_result result_of high_of too_wide carry_of_add carry_of_sub
-    overflow_of_add overflow_of_sub sign_flag zero_flag carry_after overflow_after flags_after flags_of burst block_of line_of register_index
+    overflow_of_add overflow_of_sub sign_flag zero_flag carry_after overflow_after flags_after flags_of burst block_of line_of
+    register_index
     register with_register cache_on with_mode next_pc word_at reset_visible is_load is_store address_of place_of_word is_memory memory_index
     device_number is_access to_memory to_device target target_block target_line stored loaded device_answer answer_of operand_a operand_b
     calculated status_set returned jumped branch_taken branch_target branched called execute stalled interrupt_raised interrupt_chosen

@@ -8,7 +8,8 @@ use native.Mathlib.Omega.{arith}
 use lib.ListN.{length, replicate, length-append, length-replicate}
 use Rattle.trm_image.specs.Records.{length_at, kind_at, payload_at, words_at}
 use Rattle.trm_image.specs.Meaning.{image_of}
-use Rattle.trm_image.proofs.Laws.Accepted.{Head, Second, Third, accepted-head, accepted-second, accepted-third, kind-inside, length-words_at}
+use Rattle.trm_image.proofs.Laws.Accepted.{Head, Second, Third, accepted-head, accepted-second, accepted-third, kind-inside}
+use Rattle.trm_image.proofs.Laws.Accepted.{length-words_at}
 use Rattle.trm_image.proofs.Laws.Parts.{payload-words, payload-length}
 use Rattle.trm_listing.specs.Listing.{first_store}
 use Rattle.trm_listing.specs.Loaded.{Loadable, Loaded}

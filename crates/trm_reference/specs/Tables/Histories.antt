@@ -127,7 +127,8 @@ histories =
     -- ST to 0 misses; LD from 128 misses and writes back; LD from 0 misses again with block 16 clean; LD from 1 hits
     ∷ row (finished_at goes_back (reference_reset (replicate 256 0)) 49) (1 ∷ (1 + 12) ∷ (13 + 22) ∷ (35 + 12) ∷ (47 + 2) ∷ 3 ∷ 1 ∷ [])
     -- ST to 0 misses; turning off writes one line back; LD from 0 refills again
-    ∷ row (finished_at empties_between (reference_reset (replicate 256 0)) 37) (1 ∷ (1 + 12) ∷ (13 + 11) ∷ (24 + 1) ∷ (25 + 12) ∷ 2 ∷ 1 ∷ [])
+    ∷ row (finished_at empties_between (reference_reset (replicate 256 0)) 37)
+    (1 ∷ (1 + 12) ∷ (13 + 11) ∷ (24 + 1) ∷ (25 + 12) ∷ 2 ∷ 1 ∷ [])
     -- neither ST with the cache off nor LD from a device loads block 0 into the cache: LD from 0 misses, LD from 1 hits
     ∷ row (finished_at turns_on cache_off 22) (5 ∷ (5 + 1) ∷ (6 + 2) ∷ (8 + 12) ∷ (20 + 2) ∷ 1 ∷ 0 ∷ [])
     ∷ []

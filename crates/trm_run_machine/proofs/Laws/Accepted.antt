@@ -53,7 +53,8 @@ own-rows m line_bytes inputs bytes words =
     }
 
 pub run-passed : (p : List ℕ) (m : Machine) (s line_bytes inputs bytes words : List ℕ)
-    → run_refusal paper_geometry p m s line_bytes inputs bytes words ≡ 0 → Passed paper_geometry p m s × Runs m line_bytes inputs bytes words
+    → run_refusal paper_geometry p m s line_bytes inputs bytes words ≡ 0 → Passed paper_geometry p m s
+    × Runs m line_bytes inputs bytes words
 unfolding run_refusal
 run-passed p m s line_bytes inputs bytes words q =
     let a = rows-passed paper_geometry p m s (run_rows m.scalars.counts.clocks line_bytes inputs bytes words) q in

@@ -35,7 +35,8 @@ written-adds clears l c ca s = chosen (Adds c) clears (record { adds = refl; siz
 writing-adds : (clears : Bool) (l k : ℕ) (c : Scalars) (ca : Cache) (s : List ℕ) → Adds c (writing paper_geometry clears l k c ca s)
 unfolding writing
 writing-adds clears l k c ca s = chosen (Adds c) (eqb (k + 1) (burst paper_geometry))
-    (written-adds clears l c (cleaned ca l) (write_word paper_geometry (line_at paper_geometry ca l) s k)) (record { adds = refl; size = refl })
+    (written-adds clears l c (cleaned ca l) (write_word paper_geometry (line_at paper_geometry ca l) s k))
+    (record { adds = refl; size = refl })
 
 filling-adds : (b l k : ℕ) (c : Scalars) (ca : Cache) (s : List ℕ) → Adds c (filling paper_geometry b l k c ca s)
 unfolding filling

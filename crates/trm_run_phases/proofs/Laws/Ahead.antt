@@ -108,7 +108,8 @@ unfolding filling burst
 filling-more b l k c ca s z = rw (ne_eqb (k + 1) 10 (λ e. z (omega (arith, e))))
 
 writing_more : (clears : Bool) (l k : ℕ) (c : Scalars) (ca : Cache) (s : List ℕ) → k ≢ 9
-    → moved c (in_phase 2 (k + 1)) ca (write_word paper_geometry (line_at paper_geometry ca l) s k) 0 0 ≡ writing paper_geometry clears l k c ca s
+    → moved c (in_phase 2 (k + 1)) ca (write_word paper_geometry (line_at paper_geometry ca l) s k) 0 0
+    ≡ writing paper_geometry clears l k c ca s
 unfolding writing burst
 writing_more clears l k c ca s z = rw (ne_eqb (k + 1) 10 (λ e. z (omega (arith, e))))
 

@@ -9,11 +9,13 @@ use Rattle.trm.proofs.image_calls.trm_image_payload.Goals as goal
 
 pub returns-then-not-accepted : goal.returns-then-not-accepted
 returns-then-not-accepted c =
-    payload-refused _ _ _ (c.number_of.ensures ∙ c.payload_fault-fault.ensures) (ap (λ k. eqb k 0) c.number_of.ensures ∙ sym c.accepted.ensures ∙ c.if-not-accepted.true)
+    payload-refused _ _ _ (c.number_of.ensures ∙ c.payload_fault-fault.ensures)
+    (ap (λ k. eqb k 0) c.number_of.ensures ∙ sym c.accepted.ensures ∙ c.if-not-accepted.true)
 
 pub overflow_add-result : goal.overflow_add-result
 overflow_add-result c =
-    let whole = payload-whole _ _ (ap (λ k. eqb k 0) (sym c.payload_fault-fault.ensures) ∙ sym c.accepted.ensures ∙ c.if-not-accepted.false) in
+    let whole = payload-whole _ _ (ap (λ k. eqb k 0) (sym c.payload_fault-fault.ensures) ∙ sym c.accepted.ensures
+    ∙ c.if-not-accepted.false) in
     omega (arith, whole)
 
 pub returns : goal.returns

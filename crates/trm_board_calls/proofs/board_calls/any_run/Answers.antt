@@ -17,7 +17,8 @@ returns-then-not-accepted c =
 
 pub board_clocks-g-requires : goal.board_clocks-g-requires
 board_clocks-g-requires c =
-    let h = ready-run _ _ _ _ _ _ _ (shaped-board _ _ c.well_formed.0) (code-zero c.run_refusal-refused.ensures c.accepted.ensures c.if-not-accepted.false) in
+    let h = ready-run _ _ _ _ _ _ _ (shaped-board _ _ c.well_formed.0)
+    (code-zero c.run_refusal-refused.ensures c.accepted.ensures c.if-not-accepted.false) in
     (h.0, h.1.fed, h.1.wide, h.1.broad, h.1.long)
 
 pub returns : goal.returns

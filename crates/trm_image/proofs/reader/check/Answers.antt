@@ -12,7 +12,11 @@ use Rattle.trm_image.proofs.reader.check.Goals as goal
 
 pub returns-then-image-gt65536 : goal.returns-then-image-gt65536
 unfolding image_fault records_of
-returns-then-image-gt65536 c = record { number = rw (lt-ltb 65536 _ c.if-image-gt65536.true); at = rw (lt-ltb 65536 _ c.if-image-gt65536.true) }
+returns-then-image-gt65536 c = record {
+  number = rw (lt-ltb 65536 _ c.if-image-gt65536.true);
+  at = rw
+      (lt-ltb 65536 _ c.if-image-gt65536.true);
+}
 
 pub returns-then-image-eq0 : goal.returns-then-image-eq0
 unfolding image_fault records_of

@@ -22,7 +22,8 @@ pub overflow_cast-r : goal.overflow_cast-r
 overflow_cast-r c = omega (arith, rem_lt (ended _ _ _ _ _ c.ranges.b.fits c.above0.ensures c.if-not-above0.false c.requires))
 
 pub returns-then-b-lt2147483648 : goal.returns-then-b-lt2147483648
-returns-then-b-lt2147483648 c = finish-plus (ended _ _ _ _ _ c.ranges.b.fits c.above0.ensures c.if-not-above0.false c.requires) c.if-b-lt2147483648.true
+returns-then-b-lt2147483648 c = finish-plus (ended _ _ _ _ _ c.ranges.b.fits c.above0.ensures c.if-not-above0.false c.requires)
+    c.if-b-lt2147483648.true
 
 pub overflow_sub-down : goal.overflow_sub-down
 overflow_sub-down c = omega (arith, quot_le (ended _ _ _ _ _ c.ranges.b.fits c.above0.ensures c.if-not-above0.false c.requires))
@@ -33,7 +34,9 @@ overflow_sub-rest c = le_of_lt (rem_lt (ended _ _ _ _ _ c.ranges.b.fits c.above0
 pub returns-then-r-eq0 : goal.returns-then-r-eq0
 returns-then-r-eq0 c =
     ap (λ (q : ℕ). record { quotient = q; remainder = 0 }) c.wrapping_add_u32-negated.ensures.value
-    ∙ finish-exact (ended _ _ _ _ _ c.ranges.b.fits c.above0.ensures c.if-not-above0.false c.requires) c.if-b-lt2147483648.false (omega (arith, c.if-r-eq0.true))
+    ∙ finish-exact (ended _ _ _ _ _ c.ranges.b.fits c.above0.ensures c.if-not-above0.false c.requires) c.if-b-lt2147483648.false
+    (omega (arith, c.if-r-eq0.true))
 
 pub returns : goal.returns
-returns c = finish_inexact (ended _ _ _ _ _ c.ranges.b.fits c.above0.ensures c.if-not-above0.false c.requires) c.if-b-lt2147483648.false c.if-r-eq0.false
+returns c = finish_inexact (ended _ _ _ _ _ c.ranges.b.fits c.above0.ensures c.if-not-above0.false c.requires) c.if-b-lt2147483648.false
+    c.if-r-eq0.false

@@ -38,4 +38,5 @@ overflow_cast-result c =
 
 pub returns : goal.returns
 returns c =
-    clock-is _ _ _ _ c.requires _ _ _ _ _ _ _ _ _ _ c.pins_byte-pins.ensures.0 c.device_read-device.ensures c.reply_of-input.ensures c.one_clock-t.ensures c.level_sent-level.ensures.0 c.line_of-line.ensures.0 c.device_clock-devices.ensures
+    clock-is _ _ _ _ c.requires _ _ _ _ _ _ _ _ _ _ c.pins_byte-pins.ensures.0 c.device_read-device.ensures c.reply_of-input.ensures
+    c.one_clock-t.ensures c.level_sent-level.ensures.0 c.line_of-line.ensures.0 c.device_clock-devices.ensures

@@ -52,7 +52,8 @@ devices_ahead-devices-requires c =
       from = _;
       core = _;
       total = _;
-      so = coming-from _ _ _ _ _ _ _ _ _ _ _ _ _ c-pre.here.so _ _ c.stretch-k.ensures.1 c.stretch-k.ensures.2 c.line_bytes-lines.ensures.0 _ _
+      so = coming-from _ _ _ _ _ _ _ _ _ _ _ _ _ c-pre.here.so _ _ c.stretch-k.ensures.1 c.stretch-k.ensures.2 c.line_bytes-lines.ensures.0
+          _ _
           c.quiet_clocks-h.ensures.0 c.quiet_clocks-h.ensures.1;
     }
 
@@ -74,7 +75,8 @@ shape_of-store c =
 
 pub returns : goal.returns
 returns c = (
-  (λ ws q₀ k. c.devices_ahead-devices.ensures _ ws q₀ _ _ (coming-from _ _ _ _ _ _ _ _ _ _ _ _ _ k _ _ c.stretch-k.ensures.1 c.stretch-k.ensures.2 c.line_bytes-lines.ensures.0 _ _
+  (λ ws q₀ k. c.devices_ahead-devices.ensures _ ws q₀ _ _
+      (coming-from _ _ _ _ _ _ _ _ _ _ _ _ _ k _ _ c.stretch-k.ensures.1 c.stretch-k.ensures.2 c.line_bytes-lines.ensures.0 _ _
       c.quiet_clocks-h.ensures.0 c.quiet_clocks-h.ensures.1)),
   omega arith,
 )

@@ -8,7 +8,12 @@ use Rattle.trm_clock_laws.proofs.Laws.Words.{other-made}
 use Rattle.trm_clock_ends.proofs.inner.word_begins.first_arithmetic.Goals as goal
 
 pub rotate-requires : goal.rotate-requires
-rotate-requires c = (c.requires.0.widths, c.requires.0.counts, idle-running _ _ _ _ _ (facts _ _ _ _ _ c.requires.0) c.requires.1, c.if-w-eq10.true)
+rotate-requires c = (
+  c.requires.0.widths,
+  c.requires.0.counts,
+  idle-running _ _ _ _ _ (facts _ _ _ _ _ c.requires.0) c.requires.1,
+  c.if-w-eq10.true,
+)
 
 pub returns-then-w-eq10 : goal.returns-then-w-eq10
 returns-then-w-eq10 c = let o = c.if-w-eq10.true in

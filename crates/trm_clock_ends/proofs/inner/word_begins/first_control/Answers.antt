@@ -11,7 +11,8 @@ pub enters-requires : goal.enters-requires
 enters-requires c = c.requires.0.counts
 
 pub returns-then-w-eq1 : goal.returns-then-w-eq1
-returns-then-w-eq1 c = goes-worked _ _ _ _ _ _ _ _ (first-second _ _ _ _ _ (facts _ _ _ _ _ c.requires.0) c.requires.1 (kind-jump _ _ _ c.requires.2
+returns-then-w-eq1 c = goes-worked _ _ _ _ _ _ _ _ (first-second _ _ _ _ _ (facts _ _ _ _ _ c.requires.0) c.requires.1
+    (kind-jump _ _ _ c.requires.2
     c.if-w-eq1.true))
     _ _ _ _ _ _ c.enters.ensures refl
 
@@ -44,7 +45,8 @@ pub returns-then-d-eq0 : goal.returns-then-d-eq0
 returns-then-d-eq0 c =
     let on = sym c.turns_cache_off.ensures ∙ c.if-not-turns_cache_off.false in
     ends-worked _ _ _ _ _ _ _
-    (first-clean _ _ _ _ _ (facts _ _ _ _ _ c.requires.0) c.requires.1 (kind_clearing _ _ _ c.requires.2 on) (sym c.dirty_lines-d.ensures.0 ∙
+    (first-clean _ _ _ _ _ (facts _ _ _ _ _ c.requires.0) c.requires.1 (kind_clearing _ _ _ c.requires.2 on)
+    (sym c.dirty_lines-d.ensures.0 ∙
     c.if-d-eq0.true)).0 _
     (control-made _ _ _ _ _ _ _ c.requires.2 _ _ _ _ (rw on c.empty_all.ensures) c.carried-then-d-eq0.ensures
     c.set_status-then-d-eq0.ensures.0

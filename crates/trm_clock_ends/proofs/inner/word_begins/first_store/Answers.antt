@@ -40,7 +40,8 @@ pub returns-then-not-cache_on : goal.returns-then-not-cache_on
 returns-then-not-cache_on c =
     let p = sym c.place_of_word-place.ensures ∙
     c.in-Memory.is in
-    goes-worked _ _ _ _ _ _ _ _ (first-wait _ _ _ _ _ (facts _ _ _ _ _ c.requires.0) c.requires.1 (kind_uncached _ _ _ (store_access _ c.requires.2) _ p
+    goes-worked _ _ _ _ _ _ _ _ (first-wait _ _ _ _ _ (facts _ _ _ _ _ c.requires.0) c.requires.1
+    (kind_uncached _ _ _ (store_access _ c.requires.2) _ p
     (sym c.cache_on.ensures ∙ c.if-not-cache_on.true))).0 _ _
     _ _ _ _ c.enters.ensures
     (wait-is _ _ _ (idle-running _ _ _ _ _ (facts _ _ _ _ _ c.requires.0) c.requires.1))

@@ -9,4 +9,5 @@ returns-then-w-eq8 c =
 
 pub returns : goal.returns
 returns c =
-    λ v p q. rw (c.step-pair.ensures, c.requires.1) (pair-stepped _ v c.args.u _ _ c.ranges.a.fits c.ranges.b.fits c.requires.0 p q c.if-w-eq8.false)
+    λ v p q. rw (c.step-pair.ensures, c.requires.1) (pair-stepped _ v c.args.u _ _ c.ranges.a.fits c.ranges.b.fits c.requires.0 p q
+    c.if-w-eq8.false)

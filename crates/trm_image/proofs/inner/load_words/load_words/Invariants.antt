@@ -8,7 +8,8 @@ use Rattle.trm_image.proofs.inner.load_words.load_words.Given as goal
 
 abbrev pub invariant-loop-i : goal.invariant-loop-i
 invariant-loop-i l =
-    (length l.out ≡ length l.initial.out) × (take l.i l.out ≡ take l.i (words_at l.image l.at l.count ++ replicate (length l.initial.out - l.count) 0))
+    (length l.out ≡ length l.initial.out) × (take l.i l.out
+    ≡ take l.i (words_at l.image l.at l.count ++ replicate (length l.initial.out - l.count) 0))
 
 abbrev pub decreases-loop-i : goal.decreases-loop-i
 decreases-loop-i l = length l.initial.out - l.i

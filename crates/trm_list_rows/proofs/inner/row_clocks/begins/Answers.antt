@@ -28,6 +28,7 @@ pub returns : goal.returns
 returns c =
     let pre = c.requires in (
       onward-went _ _ _ _ _ _ _ pre.0 pre.1 pre.3 (taken-idle _ _ 0 pre.4 (sym pre.5)) _ _ _ _
-          (ready-here _ _ _ _ _ _ _ c.word_at-w.ensures pre.3 pre.4 pre.5 _ c.first_clock-r.ensures) _ c.word_at-w.ensures _ _ c.went.ensures,
+          (ready-here _ _ _ _ _ _ _ c.word_at-w.ensures pre.3 pre.4 pre.5 _ c.first_clock-r.ensures) _ c.word_at-w.ensures _ _
+          c.went.ensures,
       omega (arith, c.went.ensures.left, pre.1),
     )

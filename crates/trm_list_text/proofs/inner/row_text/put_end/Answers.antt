@@ -6,6 +6,9 @@ use Rattle.trm_list_text.proofs.inner.row_text.put_end.Goals as goal
 pub returns : goal.returns
 unfolding end_bytes
 returns c = (
-  wrote_then (wrote_then (wrote_then (wrote_then (wrote_then (wrote_then (wrote_then (wrote_then c.put_text-a.ensures.0 c.put_decimal-b.ensures.0) c.put_text-c.ensures.0) c.put_decimal-d.ensures.0) c.put_text-e.ensures.0) c.put_decimal-f.ensures.0) c.put_text-g.ensures.0) c.put_decimal-h.ensures.0) c.put_byte.ensures.0,
+  wrote_then (wrote_then (wrote_then (wrote_then (wrote_then
+      (wrote_then (wrote_then (wrote_then c.put_text-a.ensures.0 c.put_decimal-b.ensures.0) c.put_text-c.ensures.0)
+      c.put_decimal-d.ensures.0) c.put_text-e.ensures.0) c.put_decimal-f.ensures.0) c.put_text-g.ensures.0) c.put_decimal-h.ensures.0)
+      c.put_byte.ensures.0,
   omega arith,
 )

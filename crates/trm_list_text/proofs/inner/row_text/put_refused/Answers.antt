@@ -6,6 +6,7 @@ use Rattle.trm_list_text.proofs.inner.row_text.put_refused.Goals as goal
 pub returns : goal.returns
 unfolding refused_bytes
 returns c = (
-  wrote_then (wrote_then (wrote_then (wrote_then c.put_text-a.ensures.0 c.put_decimal-b.ensures.0) c.put_byte-c.ensures.0) c.put_decimal-d.ensures.0) c.put_byte.ensures.0,
+  wrote_then (wrote_then (wrote_then (wrote_then c.put_text-a.ensures.0 c.put_decimal-b.ensures.0) c.put_byte-c.ensures.0)
+      c.put_decimal-d.ensures.0) c.put_byte.ensures.0,
   omega arith,
 )

@@ -81,7 +81,8 @@ pub returns : goal.returns
 unfolding rest_of pins_left
 returns c =
     let image = c.args.image.now in
-    let ok : (image_fault 2048 image).number ≡ 0 = sym c.check-checked.ensures.number ∙ eqb-true _ 0 (sym c.accepted.ensures ∙ c.if-not-accepted.false) in
+    let ok : (image_fault 2048 image).number ≡ 0 = sym c.check-checked.ensures.number
+    ∙ eqb-true _ 0 (sym c.accepted.ensures ∙ c.if-not-accepted.false) in
     let part = c.part_at-payload.ensures in
     let l = part-long image ok _ part in
     let n = ap (λ k. k / 4) l in

@@ -16,7 +16,8 @@ load_words-requires c =
 
 pub returns-then-half_at-ne2 : goal.returns-then-half_at-ne2
 returns-then-half_at-ne2 c =
-    loaded-third _ _ c.requires _ (ap (λ k. 6 + k) c.word_at.ensures) (λ z. c.if-half_at-ne2.true (c.half_at.ensures ∙ z)) _ c.load_words.ensures
+    loaded-third _ _ c.requires _ (ap (λ k. 6 + k) c.word_at.ensures) (λ z. c.if-half_at-ne2.true (c.half_at.ensures ∙ z)) _
+    c.load_words.ensures
 
 pub part_at-payload-requires : goal.part_at-payload-requires
 part_at-payload-requires c =

@@ -42,7 +42,11 @@ returns-then-no_progress c =
 
 pub loop-g-smaller : goal.loop-g-smaller
 loop-g-smaller c =
-    omega (arith, did-going _ _ _ _ _ c.turn-g.ensures.1 c.no_progress.result c.no_progress.ensures c.if-no_progress.false, c.loop-g-test.true)
+    omega (
+      arith,
+      did-going _ _ _ _ _ c.turn-g.ensures.1 c.no_progress.result c.no_progress.ensures c.if-no_progress.false,
+      c.loop-g-test.true,
+    )
 
 pub loop-g-preserved : goal.loop-g-preserved
 loop-g-preserved c =

@@ -65,7 +65,8 @@ returns-then-to-ne0 c =
     let c-pre = c.requires in
     let mo = c-pre.2 in
     let fr = sym c.is_stalled.ensures ∙ c.if-is_stalled.false in (
-      λ x₀ k. quiet-answered _ _ _ x₀ _ _ _ _ _ _ k mo _ 0 _ _ _ (interrupt_here _ _ _ _ _ _ fr c.if-c-ne0.false _ c.interrupt_chosen-to.ensures.0
+      λ x₀ k. quiet-answered _ _ _ x₀ _ _ _ _ _ _ k mo _ 0 _ _ _
+          (interrupt_here _ _ _ _ _ _ fr c.if-c-ne0.false _ c.interrupt_chosen-to.ensures.0
           c.if-to-ne0.true
           _ _ c.take_interrupt.ensures.0 c.take_interrupt.ensures.1) _ c.quietly.ensures,
       did-quiet _ _ _ _ (rw c.quietly.ensures (omega arith)),

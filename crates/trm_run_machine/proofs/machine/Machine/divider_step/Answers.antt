@@ -3,7 +3,8 @@ use Rattle.trm_clock_scalars.proofs.Laws.Steps.{divides, divided-is}
 use Rattle.trm_run_machine.proofs.machine.Machine.divider_step.Goals as goal
 
 pub divider_step-running-requires : goal.divider_step-running-requires
-divider_step-running-requires c = rw (c.operand_a-a.ensures, c.operand_b-b.ensures) (divides _ _ _ c.requires.0 (λ z. omega (arith, c.requires.1, z)))
+divider_step-running-requires c = rw (c.operand_a-a.ensures, c.operand_b-b.ensures)
+    (divides _ _ _ c.requires.0 (λ z. omega (arith, c.requires.1, z)))
 
 pub advance-after-requires : goal.advance-after-requires
 advance-after-requires c = (c.requires.2, omega arith, omega arith)

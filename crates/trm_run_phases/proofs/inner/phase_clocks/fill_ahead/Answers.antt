@@ -51,7 +51,8 @@ pub loop-i-preserved : goal.loop-i-preserved
 loop-i-preserved c =
     let n = c.loop-i.invariant in
     let u = c.requires.0 in
-    fill_on _ _ _ _ _ _ _ _ _ u n c.loop-i-test.true c.if-c-eq9.false _ (fill-block _ _ _ _ _ _ _ _ _ u n _ c.target_of-b.ensures) _ _ c.fill_clock-c.ensures.0 c.fill_clock-c.ensures.1
+    fill_on _ _ _ _ _ _ _ _ _ u n c.loop-i-test.true c.if-c-eq9.false _ (fill-block _ _ _ _ _ _ _ _ _ u n _ c.target_of-b.ensures) _ _
+    c.fill_clock-c.ensures.0 c.fill_clock-c.ensures.1
 
 pub returns : goal.returns
 returns c =

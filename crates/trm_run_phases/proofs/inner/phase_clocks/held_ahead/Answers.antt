@@ -35,7 +35,8 @@ loop-i-smaller c = omega (arith, c.loop-i-test.true)
 
 pub loop-i-preserved : goal.loop-i-preserved
 loop-i-preserved c =
-    λ w. rw c.hold-c.ensures (held_on _ _ _ _ _ _ _ _ _ _ (c.loop-i.invariant w) c.loop-i-test.true (sym c.is_stalled.ensures ∙ c.if-not-is_stalled.false))
+    λ w. rw c.hold-c.ensures (held_on _ _ _ _ _ _ _ _ _ _ (c.loop-i.invariant w) c.loop-i-test.true
+    (sym c.is_stalled.ensures ∙ c.if-not-is_stalled.false))
 
 pub returns : goal.returns
 returns c =

@@ -56,7 +56,8 @@ wait_clock-c-requires c =
     let n = c.loop-i.invariant in
     let u = c.requires.0 in (
       (good-on _ _ _ _ _ _ _ _ _ _ n u).counts,
-      (wait-more _ _ _ _ _ (wait-facts _ _ _ _ _ _ _ _ _ u n) n.phase (λ z. c.if-c-all.false (z ∙ sym (ap (λ l. get_or l (operation c.args.w)
+      (wait-more _ _ _ _ _ (wait-facts _ _ _ _ _ _ _ _ _ u n) n.phase
+          (λ z. c.if-c-all.false (z ∙ sym (ap (λ l. get_or l (operation c.args.w)
           0 + 4) c.requires.2)))).1,
     )
 

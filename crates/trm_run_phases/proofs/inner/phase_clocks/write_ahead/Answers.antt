@@ -29,7 +29,8 @@ pub write_clock-c-requires : goal.write_clock-c-requires
 write_clock-c-requires c =
     let n = c.loop-i.invariant in
     let u = c.requires.0 in
-    let f = writes _ _ _ _ _ _ _ _ _ u n _ _ (clears_on _ _ _ _ _ _ _ _ _ u n _ c.turns_cache_off-clears.ensures) (line_on _ _ _ _ _ _ _ _ _ u n _ c.line_of_burst-l.ensures.0) in
+    let f = writes _ _ _ _ _ _ _ _ _ u n _ _ (clears_on _ _ _ _ _ _ _ _ _ u n _ c.turns_cache_off-clears.ensures)
+    (line_on _ _ _ _ _ _ _ _ _ u n _ c.line_of_burst-l.ensures.0) in
     ((good-on _ _ _ _ _ _ _ _ _ _ n u).counts, f.line, f.few, f.inside)
 
 pub overflow_add-i : goal.overflow_add-i
@@ -47,7 +48,8 @@ pub loop-i-preserved : goal.loop-i-preserved
 loop-i-preserved c =
     let n = c.loop-i.invariant in
     let u = c.requires.0 in
-    write-on _ _ _ _ _ _ _ _ _ u n c.loop-i-test.true c.if-c-eq9.false _ _ (clears_on _ _ _ _ _ _ _ _ _ u n _ c.turns_cache_off-clears.ensures) (line_on _ _ _ _ _ _
+    write-on _ _ _ _ _ _ _ _ _ u n c.loop-i-test.true c.if-c-eq9.false _ _
+    (clears_on _ _ _ _ _ _ _ _ _ u n _ c.turns_cache_off-clears.ensures) (line_on _ _ _ _ _ _
     _ _ _ u n _ c.line_of_burst-l.ensures.0) _ _ c.write_clock-c.ensures.0 c.write_clock-c.ensures.1
 
 pub shape_of-store : goal.shape_of-store

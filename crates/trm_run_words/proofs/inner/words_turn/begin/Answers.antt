@@ -155,7 +155,8 @@ returns-in_default c =
       λ x₀ k. answered _ _ _ x₀ _ _ _ _ _ _ k b.more _ _ _ _ (ready-here _ _ _ _ _ _ _ c-pre.1 b.unheld b.idle b.none _
           c.first_arithmetic-r.ensures) _ _ _
           c.went-in_default.ensures.0 c.went-in_default.ensures.1 c.went-in_default.ensures.2,
-      did-worked _ _ _ _ _ _ _ _ _ _ _ c-pre.0 b.more _ _ _ _ _ c.first_arithmetic-r.ensures _ c.went-in_default.ensures.0 _ c.went-in_default.ensures.1
+      did-worked _ _ _ _ _ _ _ _ _ _ _ c-pre.0 b.more _ _ _ _ _ c.first_arithmetic-r.ensures _ c.went-in_default.ensures.0 _
+          c.went-in_default.ensures.1
           (λ _. other-inside _ _ _ (λ z. omega (arith, ar, z)) (λ z. omega (arith, ar, z))),
     )
 

@@ -39,9 +39,12 @@ returns-then-not-branch_taken c =
     let o = c.requires.2 in
     let gd = good-under _ _ _ _ _ _ u in
     let f = facts _ _ _ _ _ gd in (
-      λ p is bs ws x₀ at r. quiet-answered p _ is x₀ _ _ _ _ bs ws r b.more _ 1 _ _ _ (ready-here p _ _ _ _ _ _ at b.unheld b.idle b.none _ (ends-worked _ _ _ _ _ _ _ (first_quick _ _ _ _ _ f b.idle (kind-not_taken _ _ _ o (sym
+      λ p is bs ws x₀ at r. quiet-answered p _ is x₀ _ _ _ _ bs ws r b.more _ 1 _ _ _
+          (ready-here p _ _ _ _ _ _ at b.unheld b.idle b.none _
+          (ends-worked _ _ _ _ _ _ _ (first_quick _ _ _ _ _ f b.idle (kind-not_taken _ _ _ o (sym
           c.branch_taken.ensures ∙ c.if-not-branch_taken.true))
-          ).0 _ (other-made _ _ _ _ _ _ _ (λ z. omega (arith, o, z)) (λ z. omega (arith, o, z)) (λ z. omega (arith, o, z)) (shows c.pass.result 0 0) _ _ refl c.pass.ensures.0 c.pass.ensures.1))) _ c.quietly.ensures,
+          ).0 _ (other-made _ _ _ _ _ _ _ (λ z. omega (arith, o, z)) (λ z. omega (arith, o, z)) (λ z. omega (arith, o, z))
+          (shows c.pass.result 0 0) _ _ refl c.pass.ensures.0 c.pass.ensures.1))) _ c.quietly.ensures,
       rw
           c.quietly.ensures (omega arith),
     )
@@ -93,7 +96,8 @@ quietly-requires-2 c =
     let t = sym c.branch_taken.ensures ∙ c.if-not-branch_taken.false in
     let d = first-second _ _ _ _ _ f b.idle (kind-taken _ _ _ o t) in
     let e = c.enters-h.ensures in
-    let y = due_true c.enters-h.result.at (length c.args.pins.now) (stalled (get_or c.args.pins.now c.enters-h.result.at 0)) c.due.result c.due.ensures c.if-not-due.false in
+    let y = due_true c.enters-h.result.at (length c.args.pins.now) (stalled (get_or c.args.pins.now c.enters-h.result.at 0)) c.due.result
+    c.due.ensures c.if-not-due.false in
     let k = few-done _ _ _ _ _ _ _ _ _ _ (entered _ _ _ _ _ _ b _ e d _ _ _ _ _ u.word u.so) y.0 in
     (k.0, k.1, omega arith)
 
@@ -107,7 +111,8 @@ returns c =
     let t = sym c.branch_taken.ensures ∙ c.if-not-branch_taken.false in
     let d = first-second _ _ _ _ _ f b.idle (kind-taken _ _ _ o t) in
     let e = c.enters-h.ensures in
-    let y = due_true c.enters-h.result.at (length c.args.pins.now) (stalled (get_or c.args.pins.now c.enters-h.result.at 0)) c.due.result c.due.ensures c.if-not-due.false in (
+    let y = due_true c.enters-h.result.at (length c.args.pins.now) (stalled (get_or c.args.pins.now c.enters-h.result.at 0)) c.due.result
+    c.due.ensures c.if-not-due.false in (
       ended _ _ _ _ _ _ b _ e d y.0 y.1 _ _ (λ i. other-made _ _ _ _ _ _ i (λ z. omega (arith, o, z)) (λ z. omega (
         arith,
         o,

@@ -165,7 +165,10 @@ returns-then-not-cache_on c =
     let b = c-pre.2 in
     let q = opens _ _ _ _ _ _ _ _ _ _ c-pre.0 c-pre.1 b in
     let p = sym c.place_of_word-place.ensures ∙ c.in-Memory.is in (
-      λ x₀ k. onward-answered _ _ _ x₀ _ _ _ _ _ _ k b.more _ _ _ _ (begun-here _ _ _ _ _ _ _ c-pre.1 b.unheld b.idle b.none _ (first-wait _ _ _ _ _ q.facts b.idle (kind_uncached _ _ _ (load_access _ c-pre.3) _ p (sym c.cache_on.ensures ∙ c.if-not-cache_on.true))).0 _ 0 0 _ _ (wait-is _ _ _
+      λ x₀ k. onward-answered _ _ _ x₀ _ _ _ _ _ _ k b.more _ _ _ _
+          (begun-here _ _ _ _ _ _ _ c-pre.1 b.unheld b.idle b.none _
+          (first-wait _ _ _ _ _ q.facts b.idle (kind_uncached _ _ _ (load_access _ c-pre.3) _ p
+          (sym c.cache_on.ensures ∙ c.if-not-cache_on.true))).0 _ 0 0 _ _ (wait-is _ _ _
           (idle-running _ _ _ _ _ q.facts b.idle))) _ c.enters.ensures,
       did-quiet _ _ _ _ (rw c.enters.ensures (omega arith)),
     )
@@ -266,7 +269,9 @@ returns-else-not-due c =
     let e = c.enters-h.ensures in
     let y = due_true c.enters-h.result.at (length c-args.pins.now) (stalled (get_or c-args.pins.now c.enters-h.result.at 0))
     c.due.result c.due.ensures c.if-not-due.false in (
-      λ x₀ k. let r = entered _ _ _ _ _ _ b _ e d _ _ _ _ x₀ c-pre.1 k in answered _ _ _ x₀ _ _ _ _ _ _ r y.0 (shows c.load-next.result _ _) _ _ _ (last-here _ _ _ x₀ _ _ _ _ _ _ r y.0 _ (word_next _ _ _ _ _ c-args.store.now b _ e d _ c-pre.1) y.1 (phase _ _ _ _ _ c-args.store.now b _ e d) _ (read_made _ _ _ _ _ _ _ c-pre.3 _
+      λ x₀ k. let r = entered _ _ _ _ _ _ b _ e d _ _ _ _ x₀ c-pre.1 k in answered _ _ _ x₀ _ _ _ _ _ _ r y.0 (shows c.load-next.result _ _)
+          _ _ _ (last-here _ _ _ x₀ _ _ _ _ _ _ r y.0 _ (word_next _ _ _ _ _ c-args.store.now b _ e d _ c-pre.1) y.1
+          (phase _ _ _ _ _ c-args.store.now b _ e d) _ (read_made _ _ _ _ _ _ _ c-pre.3 _
           (ap (λ
           v. place_of_word c-args.w v (length c-args.store.now)) (seen _ _ _ _ _ c-args.store.now b _ e d) ∙ p) (shows
           c.load-next.result _ _) _
@@ -286,7 +291,9 @@ returns-else-not-due-2 c =
     let y = due_true c.enters-h-in-Memory.result.at (length c-args.pins.now) (stalled (get_or c-args.pins.now c.enters-h-in-Memory.result.at
     0)) c.due-in-Memory.result c.due-in-Memory.ensures
     c.if-not-due-2.false in (
-      λ x₀ k. ended _ _ _ _ _ _ b _ e d y.0 y.1 _ _ (λ i. load-made _ _ _ _ _ _ i c-pre.3 _ _ (ap (λ v. place_of_word c-args.w v (length c-args.store.now)) (seen _ _ _ _ _ c-args.store.now b _ e d) ∙ p) c.peek-x.ensures (shows
+      λ x₀ k. ended _ _ _ _ _ _ b _ e d y.0 y.1 _ _ (λ i. load-made _ _ _ _ _ _ i c-pre.3 _ _
+          (ap (λ v. place_of_word c-args.w v (length c-args.store.now)) (seen _ _ _ _ _ c-args.store.now b _ e d) ∙ p) c.peek-x.ensures
+          (shows
           c.load.result 0
           0) _ _ refl c.load.ensures.0 c.load.ensures.1) _ c.quietly-in-Memory.ensures _ _ _ _ x₀ c-pre.1 k,
       did-quiet _ _ _ _ (rw (c.quietly-in-Memory.ensures, e) (omega arith)),

@@ -62,7 +62,8 @@ returns-then-raised c =
       turned-from _ _ _ c-args.g _ _ _ _ _ _ a e _ _ _ n.0,
       did-since _ _ _ _ _ (past-raised c-args.pins.now c-args.g c.loop-h.h.at c.loop-h.h.scalars.status c.raised.result
           b (subst (λ (t : Going). t.at ≤
-          c.loop-h.h.at) e n.2) (subst (λ (t : Going). c.loop-h.h.at ≡ t.at → c.loop-h.h.scalars.status ≡ t.scalars.status) e n.3) c.raised.ensures c.if-raised.true) n.4,
+          c.loop-h.h.at) e n.2) (subst (λ (t : Going). c.loop-h.h.at ≡ t.at → c.loop-h.h.scalars.status ≡ t.scalars.status) e n.3)
+          c.raised.ensures c.if-raised.true) n.4,
     )
 
 pub short-requires : goal.short-requires
@@ -106,7 +107,9 @@ loop-h-preserved-then-w-lt8 c =
     let n = c.loop-h.invariant in
     let e = c.at_rest-h.ensures in
     let ah = at_from _ _ _ c-args.g _ _ _ _ _ _ a e _ _ _ n.0 in
-    let y = unraised (stalled (get_or c-args.pins.now c.loop-h.h.at 0)) (interrupt_chosen c.loop-h.h.scalars.status (get_or c-args.pins.now c.loop-h.h.at 0)) c.raised.result c.raised.ensures c.if-raised.false in
+    let y = unraised (stalled (get_or c-args.pins.now c.loop-h.h.at 0))
+    (interrupt_chosen c.loop-h.h.scalars.status (get_or c-args.pins.now c.loop-h.h.at 0)) c.raised.result c.raised.ensures
+    c.if-raised.false in
     let gd = good-at_turn _ _ _ _ _ _ _ _ _ _ ah c.word_at-w.ensures in
     let f = facts _ _ _ _ _ gd in (
       λ x₀ k. quiet-answered _ _ _ x₀ _ _ _ _ _ _ (n.0 x₀ k) c.loop-h-test.true _ 1 _ _ _ (ready-here _ _ _ _ _ _ _ c.word_at-w.ensures
@@ -135,7 +138,8 @@ begin-h-requires c =
     let n = c.loop-h.invariant in
     let e = c.at_rest-h.ensures in
     let ah = at_from _ _ _ c-args.g _ _ _ _ _ _ a e _ _ _ n.0 in
-    let y = unraised (stalled (get_or c-args.pins.now c.loop-h.h.at 0)) (interrupt_chosen c.loop-h.h.scalars.status (get_or c-args.pins.now c.loop-h.h.at 0)) c.raised.result
+    let y = unraised (stalled (get_or c-args.pins.now c.loop-h.h.at 0))
+    (interrupt_chosen c.loop-h.h.scalars.status (get_or c-args.pins.now c.loop-h.h.at 0)) c.raised.result
     c.raised.ensures c.if-raised.false in (
       ah,
       c.word_at-w.ensures,
