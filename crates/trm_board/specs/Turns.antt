@@ -1,9 +1,8 @@
 -- The turns of a run, one for each clock, and what happens in each, as the answers and the status show it.
 -- Request A1: "must hand every accepted byte to reads that find the bit set, once and in order, but for those at a run's end still on the
 -- line or unread, provided each is read before the next is received; a later byte replaces an unread one".
---   turns T K b is, board_end   the clocks, and the last state        accepted_in, handed_in, received_in, fates_in, marks_in   what
--- happens in
--- one
+--   turns T K b is, board_end   the clocks, and the last state
+--   accepted_in, handed_in, received_in, fates_in, marks_in   what happens in one
 use Rattle.std.specs.Prelude.{ℕ, ◌/◌, ◌%◌, Bool, true, cond, ◌&&◌, List, [], ◌∷◌, ◌++◌, eqb}
 use Rattle.trm_serial.specs.Timing.{Timing}
 use Rattle.trm_serial.specs.Serial.{stops}

@@ -1,7 +1,7 @@
 -- A run of the board: its clocks one after another, its last state, counts and buffers.
 -- Request A1; document 01: "A run carries out one clock per line byte"; "Per clock it writes a byte .. and the word moved".
---   board_run_of p x joined given switches   the run        column f os   one number of each clock        answers_of os   the core's
--- answers
+--   board_run_of p x joined given switches   the run
+--   column f os   one number of each clock        answers_of os   the core's answers
 use Rattle.std.specs.Prelude.{ℕ, Bool, List, [], ◌∷◌, length}
 use Rattle.trm_reference.specs.Geometry.{paper_geometry}
 use Rattle.trm_reference.specs.Access.{Answer}

@@ -1,8 +1,8 @@
 -- The cache: its four arrays, one line, memory as seen through it, and the steps on it.
 -- Paper: "The cache has 16 lines of 8 words, write-back"; "A line is empty while it refills and clean after either ten. An empty line is
 -- clean with block 0, its old words staying until overwritten"; "a full line's word standing before the store's".
---   line_at G ca l   line l        holds ln b   the line is full with block b        view G ca s a   memory word a        copy_of   all
--- words
+--   line_at G ca l   line l        holds ln b   the line is full with block b
+--   view G ca s a   memory word a        copy_of   all words
 --   emptied, cleaned, filled, with_word, stored_to   the cache after a change of one line
 --   write_word, fill_word   one clock of a burst      count_dirty, first_dirty, all_emptied   for turning the cache off
 use Rattle.std.specs.Prelude.{ℕ, zero, suc, ◌+◌, ◌-◌, ◌*◌, ◌%◌, Bool, cond, ◌&&◌, List, [], ◌∷◌, length, get_or, set, take, drop, leb, eqb}

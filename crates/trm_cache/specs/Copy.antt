@@ -1,7 +1,7 @@
 -- A burst clock by clock, and the block copy that it amounts to: from a line to the store, or from the store to a line.
 -- Paper: "Each ten is two waits and eight words in rising order"; "The cache has 16 lines of 8 words, write-back".
---   writes, fills   the store or the cache after the first k clocks      copied   the store with a line copied in      block_words   a
--- block
+--   writes, fills   the store or the cache after the first k clocks
+--   copied   the store with a line copied in        block_words   a block
 use Rattle.std.specs.Prelude.{ℕ, zero, suc, ◌+◌, ◌*◌, List, ◌++◌, take, drop}
 use Rattle.trm_reference.specs.Geometry.{Geometry}
 use Rattle.trm_cache.specs.Cache.{Cache, Line, write_word, fill_word}

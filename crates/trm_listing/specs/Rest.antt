@@ -1,7 +1,7 @@
 -- A listing in the middle of an image: the runs that are left. Contracts of `inner` use this.
 -- Paper: nothing. `pins_left`, `pins_at` and `Stands` are in the contracts of the pieces; no claim rests on `held_by` and `Along`.
---   pins_left s q   the inputs of all clocks that are left        Stands   a listing is at this place        Along   it continued to
--- another
+--   pins_left s q   the inputs of all clocks that are left
+--   Stands   a listing is at this place        Along   it continued to another
 use Rattle.std.specs.Prelude.{ℕ, ◌+◌, ◌*◌, ◌-◌, ◌≤◌, ◌≡◌, List, ◌++◌, length, take, drop, replicate}
 use Rattle.trm_reference.specs.Trace.{Pins}
 use Rattle.trm_core.specs.declared.record.Scalars.{Scalars}

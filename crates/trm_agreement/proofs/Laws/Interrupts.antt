@@ -1,6 +1,6 @@
 -- The interrupt rule in bits, and one clock of the plain machine from any state.
 -- Idea: the tests decide each case.
---   interrupt_rule    taken-in-bits, goes_to   what it gives        plain_clock
+--   interrupt_rule    taken_in-bits, goes_to   what it gives        plain_clock
 use Prim.Native.Nat.{ℕ, ◌-◌}
 use mathlib.Core.Path.{◌≡◌, refl, ◌∙◌}
 use mathlib.Core.Logic.{◌≢◌}

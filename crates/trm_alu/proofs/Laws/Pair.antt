@@ -1,6 +1,6 @@
 -- A step of the pair is a step of the divider's two registers.
 -- The doubled pair is the trial above the rest of the quotient register, so the comparison of the pair is that of the trial with A.
---   quot_fits, rem-fits   the registers' widths        pair_step   from the pair after k steps to the pair after k + 1
+--   quot_fits, rem-fits   the registers' widths        pair_step_lem   from the pair after k steps to the pair after k + 1
 use Rattle.std.proofs.Common.{◌≡◌, ℕ, ◌+◌, ◌-◌, ◌*◌, ◌/◌, ◌%◌, ◌^◌, ◌<◌, ◌≤◌, Bool, true, false, cond, ltb, refl, ap, ◌∙◌, lt_of_le_of_lt}
 use Rattle.std.proofs.Common.{mod-lt, div-le_self, arith, ltb-false, ltb-true, le-ltb, lt-ltb}
 use Rattle.trm_alu.specs.declared.inner.divide.Divider.{Divider}

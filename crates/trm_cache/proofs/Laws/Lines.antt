@@ -1,7 +1,7 @@
 -- Read over write: each line after each setter of the cache arrays.
 -- `Becomes G ca l ln ca'` says that line l becomes ln and no other line changes; there is one such law for each setter.
 use Prim.Native.Nat.{ℕ, suc, ◌+◌, ◌-◌, ◌*◌, ◌≤◌, ◌<◌}
-use mathlib.Core.Path.{◌≡◌, refl, ap, ◌∙◌}
+use mathlib.Core.Path.{◌≡◌, refl, sym, ap, subst, ◌∙◌}
 use mathlib.Core.Logic.{◌≢◌}
 use mathlib.Core.Bool.{Bool, true, false, cond}
 use mathlib.Core.List.{List}
@@ -155,7 +155,7 @@ module _ (G : Geometry) (ca : Cache) (l : ℕ) (wd : Wide G ca) (lin : l < G.lin
   becomes_stored i x h = record {
     wide = record {
       full = wd.full;
-      dirty = rw (length-set ca.dirty l 1) wd.dirty;
+      dirty = subst (λ (n : ℕ). G.lines ≤ n) (sym (length-set ca.dirty l 1)) wd.dirty;
       block = wd.block;
       words = rw (length-set ca.words (l * stride G + i) x) wd.words;
       full_mark = wd.full_mark;
