@@ -68,7 +68,7 @@ fn control(word: u32) -> Instruction
 }
 
 // The instruction that a word encodes, or the refusal.
-#[tactic(auto, using(crate::proofs::Laws::Numbers::decodes), unfolding(crate::specs::Decode::decode_of, crate::specs::Decode::instruction_of))]
+#[tactic(auto, using(crate::proofs::Laws::Numbers::decodes), unfolding(crate::specs::Decode::decode_of))]
 pub fn decode(word: u32) -> Decoded
     ensures { Decodes word result }
 {

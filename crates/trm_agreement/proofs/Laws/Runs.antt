@@ -11,7 +11,7 @@ use borrow.Author.Tests.{eqb-true, eq-eqb, ltb-false, le-ltb}
 use native.Mathlib.Omega.{arith}
 use Rattle.trm_laws.proofs.Tests.{both, ◌&t◌}
 use Rattle.trm_reference.specs.Geometry.{Geometry}
-use Rattle.trm_reference.specs.Trace.{pins_of, clocks}
+use Rattle.trm_reference.specs.Trace.{pins_of}
 use Rattle.trm_reference.proofs.Laws.Trace.{clocks-length, pins-length}
 use Rattle.trm_core.specs.Clock.{clock_of}
 use Rattle.trm_core.specs.Record.{Lent}

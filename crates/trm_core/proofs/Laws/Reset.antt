@@ -1,11 +1,11 @@
 -- The record after a reset: its lines are empty, and it is accepted.
 -- Every clause of the record rule, at zeros.
 --   first-line, first-words, first-wide   the first cache        reset_legal   an accepted reset        reset_kept   its record is accepted
-use Prim.Native.Nat.{ℕ, ◌+◌, ◌*◌, ◌≤◌, ◌<◌}
+use Prim.Native.Nat.{ℕ, ◌*◌, ◌≤◌, ◌<◌}
 use mathlib.Core.Path.{◌≡◌, refl}
 use mathlib.Core.Bool.{Bool, true, false, cond}
 use mathlib.Core.List.{List}
-use lib.ListN.{length, get_or, drop, replicate, get_or-replicate, length-drop, length-replicate}
+use lib.ListN.{length, drop, replicate, get_or-replicate, length-drop, length-replicate}
 use lib.Seq.{length-take-le}
 use borrow.Author.Tests.{eq-eqb}
 use native.Mathlib.Omega.{arith}

@@ -22,7 +22,7 @@ use Rattle.trm_core.specs.declared.record.Scalars.{Scalars}
 use Rattle.trm_core.specs.Record.{Machine}
 use Rattle.trm_cache.specs.Cache.{Cache, count_dirty}
 use Rattle.trm_core.specs.Record.{visible_of, cache_of, stepping, in_phase}
-use Rattle.trm_core.specs.Clock.{moved, quiet, line_for, hits, charge_here, is_last, finish, written, missing, first_clock, advance}
+use Rattle.trm_core.specs.Clock.{moved, quiet, line_for, hits, charge_here, is_last, finish, missing, first_clock, advance}
 use Rattle.trm_core.specs.Clock.{worked, clock_of}
 use Rattle.trm_core.specs.Rule.{due_ok, record_ok}
 use Rattle.trm_core.specs.Refusals.{program_ok, store_ok, record_rows, count_row, clock_rows, clock_refusal}

@@ -2,10 +2,10 @@
 -- Idea: the digits still to be written and those already there are all digits of the number.
 use Prim.Native.Nat.{ℕ, zero, suc, ◌+◌, ◌-◌, ◌/◌, ◌%◌, ◌≤◌, ◌<◌}
 use mathlib.Core.Path.{◌≡◌, refl, sym, ap, ◌∙◌, subst}
-use mathlib.Core.List.{List, [], ◌∷◌, ◌++◌, append-nil, append_assoc}
+use mathlib.Core.List.{List, [], ◌∷◌, ◌++◌, append_assoc}
 use native.Mathlib.Omega.{arith}
 use lib.ListN.{length, set, take, drop, length-set, length-append, take-append-drop}
-use lib.Seq.{slice, slice_empty, slice-cons, get_or-set_same, drop-set-lt, take-set-lt, take-set-le, take-take}
+use lib.Seq.{slice, slice-cons, get_or-set_same, drop-set-lt, take-set-lt, take-set-le, take-take}
 use Rattle.trm_list_text.specs.Numbers.{glyph, digits}
 use Rattle.trm_list_text.specs.Wrote.{Wrote}
 
@@ -21,15 +21,6 @@ pub record Spelt (old : List ℕ) (at k n base i rest : ℕ) (new : List ℕ) : 
   pub same : take (at + i) new ≡ take (at + i) old
   pub all : digits base i rest ++ slice (at + i) (at + k) new ≡ digits base k n
   pub long : length new ≡ length old
-
-pub spelt-none : (b : List ℕ) (at k n base : ℕ) → at + k ≤ length b → Spelt b at k n base k n b
-spelt-none b at k n base h = record {
-  below = omega arith;
-  room = h;
-  same = refl;
-  all = ap (λ t. digits base k n ++ t) (slice_empty (at + k) b) ∙ append-nil (digits base k n);
-  long = refl;
-}
 
 -- what the buffer holds after one more digit
 stands : (at j k g : ℕ) (new : List ℕ) → j < k → at + k ≤ length new

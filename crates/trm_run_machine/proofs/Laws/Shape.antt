@@ -1,6 +1,5 @@
 -- The record's arrays have the lengths of their types (`Shaped`, D-31).
 -- Idea: each field of a value of the record's type is a value of the field's type, and an array's type fixes its length.
-use Prim.Native.Nat.{ℕ}
 use mathlib.Core.Path.{◌≡◌, sym}
 use mathlib.Core.List.{List}
 use lib.ListN.{length}

@@ -1,5 +1,4 @@
 -- By cases: a wait, or one word.
-use Prim.Native.Nat.{◌-◌}
 use borrow.Author.Tests.{lt-leb, le-leb}
 use Rattle.trm_cache.specs.Cache.{fill_word}
 use Rattle.trm_cache.proofs.inner.bursts.fill_word.Goals as goal

@@ -1,4 +1,3 @@
-use Prim.Native.Nat.{◌-◌}
 use native.Mathlib.Omega.{arith}
 use Rattle.trm_cache.proofs.Laws.Parts.{counting-none, counting_more, counting-end}
 use Rattle.trm_cache.proofs.inner.switch_off.dirty_lines.Goals as goal

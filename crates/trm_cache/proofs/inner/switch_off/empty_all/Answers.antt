@@ -1,4 +1,3 @@
-use Prim.Native.Nat.{◌-◌}
 use native.Mathlib.Omega.{arith}
 use Rattle.trm_cache.proofs.Laws.Parts.{empty-none, empty-more, empty-end}
 use Rattle.trm_cache.proofs.inner.switch_off.empty_all.Goals as goal

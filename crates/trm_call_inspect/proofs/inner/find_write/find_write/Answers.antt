@@ -1,4 +1,3 @@
-use Prim.Native.Nat.{◌-◌}
 use mathlib.Core.Path.{sym, ◌∙◌}
 use native.Mathlib.Omega.{arith}
 use Rattle.trm_call_inspect.proofs.Laws.Loops.{unseen-none, unseen-more, unseen-end, seen}

@@ -1,6 +1,5 @@
 use native.Mathlib.Omega.{arith}
 use mathlib.Core.Path.{sym, ◌∙◌}
-use Prim.Native.Nat.{◌-◌}
 use borrow.Author.Tests.{le-leb}
 use Rattle.trm_call_refusals.proofs.Laws.{most-more, most-end}
 use Rattle.trm_call_refusals.proofs.inner.table_rows.all_at_most_bytes.Goals as goal

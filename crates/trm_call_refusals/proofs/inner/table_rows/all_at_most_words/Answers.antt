@@ -1,6 +1,5 @@
 use native.Mathlib.Omega.{arith}
 use mathlib.Core.Path.{refl, sym, ◌∙◌}
-use Prim.Native.Nat.{◌-◌}
 use Rattle.trm_call_refusals.proofs.Laws.{all_more, all-bad, all_end}
 use Rattle.trm_call_refusals.proofs.inner.table_rows.all_at_most_words.Goals as goal
 

@@ -1,4 +1,3 @@
-use Rattle.trm_core.specs.Clock.{hits}
 use Rattle.trm_call_rule.proofs.inner.record_rule.evicts.Goals as goal
 
 pub returns-then-not-line_for_full : goal.returns-then-not-line_for_full

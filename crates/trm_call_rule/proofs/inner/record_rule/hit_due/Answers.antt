@@ -1,4 +1,3 @@
-use Rattle.trm_core.specs.Clock.{hits}
 use Rattle.trm_call_rule.proofs.inner.record_rule.hit_due.Goals as goal
 
 pub returns-then-not-to_memory : goal.returns-then-not-to_memory

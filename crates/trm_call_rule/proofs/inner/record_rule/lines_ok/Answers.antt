@@ -1,9 +1,7 @@
 use native.Mathlib.Omega.{arith}
 use mathlib.Core.Path.{sym, ◌∙◌}
-use mathlib.Core.Bool.{true}
-use Prim.Native.Nat.{◌-◌}
 use Rattle.trm_core.specs.Rule.{lines_ok}
-use Rattle.trm_call_rule.proofs.Laws.{below_none, below_more, below-bad, below_end, good_line}
+use Rattle.trm_call_rule.proofs.Laws.{below_none, below_more, below-bad, below_end}
 use Rattle.trm_call_rule.proofs.inner.record_rule.lines_ok.Goals as goal
 
 pub loop-l-init : goal.loop-l-init

@@ -1,6 +1,6 @@
 use Rattle.trm_image.proofs.Laws.Words.{fits_more, fits-bad, fits-end, fits_all}
 use mathlib.Core.Path.{sym, ◌∙◌, subst}
-use Prim.Native.Nat.{◌-◌, ◌≤◌, ◌<◌}
+use Prim.Native.Nat.{◌≤◌, ◌<◌}
 use native.Mathlib.Omega.{arith}
 use Rattle.trm_image.proofs.inner.image_rows.words_fit.Goals as goal
 

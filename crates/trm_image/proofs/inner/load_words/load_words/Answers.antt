@@ -1,6 +1,5 @@
 use native.Mathlib.Omega.{arith}
 use mathlib.Core.Path.{refl}
-use Prim.Native.Nat.{◌-◌}
 use Rattle.trm_image.proofs.Laws.Load.{load-more, load-end}
 use Rattle.trm_image.proofs.inner.load_words.load_words.Goals as goal
 

@@ -1,5 +1,4 @@
 use mathlib.Core.Path.{refl, sym, ◌∙◌}
-use Prim.Native.Nat.{◌-◌}
 use native.Mathlib.Omega.{arith}
 use Rattle.trm_image.specs.Records.{records_of, record_at}
 use Rattle.trm_image.proofs.Laws.Places.{found_here, found-later, found_none}

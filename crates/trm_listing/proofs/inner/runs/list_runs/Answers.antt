@@ -1,7 +1,6 @@
 use mathlib.Core.Path.{ap, ◌∙◌}
 use Rattle.trm_listing.specs.declared.inner.runs.Place.{Place}
 use native.Mathlib.Omega.{arith}
-use Prim.Native.Nat.{◌-◌}
 use Rattle.trm_image.proofs.Laws.Runs.{runs-next}
 use Rattle.trm_listing.proofs.Laws.Along.{along-none, along_then, along-next}
 use Rattle.trm_listing.proofs.inner.runs.list_runs.Goals as goal

@@ -1,5 +1,4 @@
 use native.Mathlib.Omega.{arith}
-use Prim.Native.Nat.{◌-◌}
 use lib.ListN.{length-set}
 use Rattle.trm_run_machine.proofs.Laws.Clear.{clear_none, clear-more, clear-end}
 use Rattle.trm_run_machine.proofs.inner.clear.clear_bytes.Goals as goal

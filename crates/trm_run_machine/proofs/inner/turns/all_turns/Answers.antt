@@ -1,6 +1,4 @@
-use mathlib.Core.Bool.{true}
 use mathlib.Core.Path.{refl, ◌∙◌}
-use Prim.Native.Nat.{◌-◌}
 use native.Mathlib.Omega.{arith}
 use Rattle.trm_laws.proofs.Tests.{bool_clash}
 use Rattle.trm_run_phases.proofs.Laws.Did.{stops_so, did-going}

@@ -1,7 +1,6 @@
 use Rattle.trm_run_phases.proofs.Laws.Ahead.{on_none, good-on, fill-block, fills, fill_on}
 use native.Mathlib.Omega.{arith}
 use native.Mathlib.Nat.{mod-lt}
-use Prim.Native.Nat.{◌-◌}
 use mathlib.Core.Path.{refl, ap}
 use Rattle.trm_reference.specs.Visible.{Visible}
 use Rattle.trm_core.proofs.Laws.Rows.{legal_of}

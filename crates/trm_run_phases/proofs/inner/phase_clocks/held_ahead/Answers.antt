@@ -1,7 +1,6 @@
 use Rattle.trm_run_phases.proofs.Laws.Ahead.{past-held}
 use Rattle.trm_run_phases.proofs.Laws.Ahead.{on_none, good-on, held_on}
 use native.Mathlib.Omega.{arith}
-use Prim.Native.Nat.{◌-◌}
 use mathlib.Core.Path.{refl, sym, ◌∙◌}
 use Rattle.trm_run_phases.proofs.inner.phase_clocks.held_ahead.Goals as goal
 

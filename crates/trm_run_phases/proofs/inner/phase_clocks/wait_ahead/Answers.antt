@@ -5,7 +5,7 @@ use Rattle.trm_run_phases.proofs.Laws.Ahead.{on_none, good-on, wait-on}
 use Rattle.trm_word.specs.Fields.{operation}
 use Rattle.trm_reference.specs.Charge.{uncached_charge}
 use native.Mathlib.Omega.{arith}
-use Prim.Native.Nat.{◌+◌, ◌-◌}
+use Prim.Native.Nat.{◌+◌}
 use mathlib.Core.Path.{refl, sym, ap, ◌∙◌}
 use lib.ListN.{get_or}
 use Rattle.trm_reference.specs.Visible.{Visible}

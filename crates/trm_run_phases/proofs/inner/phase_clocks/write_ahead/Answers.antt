@@ -1,7 +1,6 @@
 use Rattle.trm_run_phases.proofs.Laws.Ahead.{long-on}
 use Rattle.trm_run_phases.proofs.Laws.Ahead.{on_none, good-on, clears_on, line_on, writes, write-on}
 use native.Mathlib.Omega.{arith}
-use Prim.Native.Nat.{◌-◌}
 use mathlib.Core.Path.{refl, ap}
 use Rattle.trm_reference.specs.Visible.{Visible}
 use Rattle.trm_core.proofs.Laws.Rows.{legal_of}

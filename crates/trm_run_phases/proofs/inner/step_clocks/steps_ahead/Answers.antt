@@ -1,7 +1,6 @@
 use Rattle.trm_run_phases.proofs.Laws.Serial.{stepped-begins, stepped-on, serves, packed, serial_room}
 use Rattle.trm_clock_laws.proofs.Laws.Facts.{charge-some}
 use native.Mathlib.Omega.{arith}
-use Prim.Native.Nat.{◌-◌}
 use mathlib.Core.Path.{refl, ap}
 use lib.ListN.{get_or}
 use Rattle.trm_word.specs.Fields.{operation}

@@ -7,7 +7,6 @@ use Rattle.trm_clock_laws.proofs.Laws.Words.{arithmetic-left}
 use Rattle.trm_clock_laws.proofs.Laws.Kinds.{kind-call}
 use Rattle.trm_clock_laws.proofs.Laws.First.{first-second}
 use native.Mathlib.Omega.{arith}
-use Rattle.trm_clock_laws.proofs.Laws.Facts.{facts}
 use Rattle.trm_run_words.proofs.inner.words_turn.begin.Goals as goal
 
 pub offset_bounds-inputs-at : goal.offset_bounds-inputs-at

@@ -15,7 +15,6 @@ use Rattle.trm_clock_laws.proofs.Laws.Words.{wait-is, read_made, load-made}
 use native.Mathlib.Omega.{arith}
 use mathlib.Core.Path.{refl, sym, ap, ◌∙◌}
 use lib.ListN.{length, get_or}
-use Rattle.trm_clock_laws.proofs.Laws.Facts.{facts}
 use Rattle.trm_clock_laws.proofs.Laws.Words.{shows}
 use Rattle.trm_run_phases.proofs.Laws.Here.{begun-here}
 use Rattle.trm_run_phases.proofs.Laws.Next.{answered, quiet-answered, onward-answered, few-done, due_true, last-here, entered, ended}

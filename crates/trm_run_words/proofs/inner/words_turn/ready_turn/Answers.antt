@@ -1,6 +1,5 @@
 use Rattle.trm_run_phases.proofs.Laws.Next.{rests, turned-from, at_from, long-from, unraised, past-raised}
-use Prim.Native.Nat.{◌-◌, ◌≤◌}
-use mathlib.Core.Bool.{true}
+use Prim.Native.Nat.{◌≤◌}
 use mathlib.Core.Path.{◌≡◌, refl, ap, subst, ◌∙◌}
 use Rattle.trm_run_phases.proofs.Laws.Did.{did-since, did-on}
 use Rattle.trm_run_phases.proofs.Laws.Here.{ready-here}
