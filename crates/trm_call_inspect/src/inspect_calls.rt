@@ -21,7 +21,7 @@ pub fn look(m: Machine, program: &[u32], store: &[u32], address: u32) -> Look
     let block = m.block;
     let words = m.words;
     let refused = call_refusals::look_refusal(
-        c, program, &regs, &full, &dirty, &block, &words, store, address,
+        c, program, &regs, &cache, store, address,
     );
     if !record_rows::accepted(refused) {
         return Look {
@@ -29,7 +29,7 @@ pub fn look(m: Machine, program: &[u32], store: &[u32], address: u32) -> Look
             word: 0,
         };
     }
-    let word = memory::look(&full, &dirty, &block, &words, store, address);
+    let word = memory::look(&cache, store, address);
     Look {
         refused: refused,
         word: word,
@@ -47,12 +47,12 @@ pub fn copy(m: Machine, program: &[u32], store: &[u32], buffer: &mut [u32]) -> R
     let block = m.block;
     let words = m.words;
     let refused = call_refusals::copy_refusal(
-        c, program, &regs, &full, &dirty, &block, &words, store, buffer,
+        c, program, &regs, &cache, store, buffer,
     );
     if !record_rows::accepted(refused) {
         return refused;
     }
-    memory::copy(&full, &dirty, &block, &words, store, buffer);
+    memory::copy(&cache, store, buffer);
     refused
 }
 

@@ -17,7 +17,8 @@ use Rattle.trm_reference.specs.Geometry.{paper_geometry}
 use Rattle.trm_reference.specs.Visible.{Visible}
 use Rattle.trm_reference.specs.Access.{is_load}
 use Rattle.trm_reference.specs.Charge.{is_stepped, without_cache, uncached_charge}
-use Rattle.trm_cache.specs.Cache.{Cache, line_at}
+use Rattle.trm_cache.specs.Cache.{line_at}
+use Rattle.trm_cache.specs.declared.record.Cache.{Cache}
 use Rattle.trm_core.specs.declared.record.Running.{Running}
 use Rattle.trm_core.specs.Rule.{all_below, marks_ok, line_ok, phase_ok, arithmetic_ok}
 use Rattle.trm_core.proofs.Laws.Kind.{uncached, kind_of, kind-is, is-of, uncached_is, waits-are}

@@ -40,7 +40,7 @@ pub fn clock(m: Machine, program: &[u32], store: &mut [u32], pins: u8, input: u3
     let block = m.block;
     let words = m.words;
     let refused = call_refusals::clock_refusal(
-        c, program, &regs, &full, &dirty, &block, &words, store, pins,
+        c, program, &regs, &cache, store, pins,
     );
     if !record_rows::accepted(refused) {
         return Clock {
@@ -74,7 +74,7 @@ pub fn run(
     let block = m.block;
     let cached = m.words;
     let refused = call_refusals::run_refusal(
-        c, program, &regs, &full, &dirty, &block, &cached, store, pins, inputs, bytes, words,
+        c, program, &regs, &cache, store, pins, inputs, bytes, words,
     );
     if !record_rows::accepted(refused) {
         return Run {

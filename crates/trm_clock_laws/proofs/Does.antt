@@ -6,7 +6,8 @@ use mathlib.Core.Path.{◌≡◌}
 use mathlib.Core.Bool.{Bool, true, false}
 use mathlib.Core.List.{List}
 use Rattle.trm_reference.specs.Geometry.{paper_geometry}
-use Rattle.trm_cache.specs.Cache.{Cache, line_at}
+use Rattle.trm_cache.specs.Cache.{line_at}
+use Rattle.trm_cache.specs.declared.record.Cache.{Cache}
 use Rattle.trm_core.specs.declared.record.Scalars.{Scalars}
 use Rattle.trm_core.specs.Record.{gathered, product_at, remainder_at, quotient_at, stepping, in_phase}
 use Rattle.trm_core.specs.Clock.{Moved, moved, is_last, writing, filling, missing, advance}

@@ -5,7 +5,7 @@ use Rattle.std.specs.Prelude.{ℕ, ◌≡◌, true, List}
 use Rattle.trm_word.specs.Address.{store_length_ok}
 use Rattle.trm_reference.specs.Geometry.{paper_geometry}
 use Rattle.trm_reference.specs.Visible.{cache_on}
-use Rattle.trm_cache.specs.Cache.{Cache}
+use Rattle.trm_cache.specs.declared.record.Cache.{Cache}
 use Rattle.trm_core.specs.declared.record.Scalars.{Scalars}
 use Rattle.trm_core.specs.Record.{gathered}
 use Rattle.trm_core.specs.Rule.{widths_ok, counts_ok, registers_ok, phase_ok, lines_ok}

@@ -11,7 +11,7 @@ use Rattle.trm_reference.specs.Access.{Answer, to_memory}
 use Rattle.trm_reference.specs.Execute.{branch_taken}
 use Rattle.trm_reference.specs.Charge.{turns_cache_off}
 use Rattle.trm_reference.specs.Trace.{After}
-use Rattle.trm_cache.specs.Cache.{Cache}
+use Rattle.trm_cache.specs.declared.record.Cache.{Cache}
 use Rattle.trm_core.specs.declared.record.Running.{Running}
 use Rattle.trm_core.specs.declared.record.Scalars.{Scalars}
 use Rattle.trm_core.specs.Record.{Lent, gathered, whole}

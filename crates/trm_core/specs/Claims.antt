@@ -15,7 +15,8 @@ use Rattle.trm_reference.specs.Charge.{turns_cache_off, uncached_charge}
 use Rattle.trm_reference.specs.Trace.{Pins, After}
 use Rattle.trm_core.specs.declared.record.Running.{Running}
 use Rattle.trm_core.specs.Record.{Machine}
-use Rattle.trm_cache.specs.Cache.{Cache, stride, count_dirty}
+use Rattle.trm_cache.specs.Cache.{stride, count_dirty}
+use Rattle.trm_cache.specs.declared.record.Cache.{Cache}
 use Rattle.trm_core.specs.Record.{Lent, visible_of, cache_of, start}
 use Rattle.trm_core.specs.Clock.{charge_here, carried, worked, held_clock, clock_of}
 use Rattle.trm_core.specs.Rule.{record_ok}

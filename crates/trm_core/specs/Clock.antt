@@ -16,7 +16,8 @@ use Rattle.trm_reference.specs.Trace.{Pins, After}
 use Rattle.trm_core.specs.declared.record.Running.{Running}
 use Rattle.trm_core.specs.declared.record.Scalars.{Scalars}
 use Rattle.trm_core.specs.Record.{Machine}
-use Rattle.trm_cache.specs.Cache.{Cache, Line, line_at, holds, view, emptied, cleaned, filled, stored_to, write_word, fill_word}
+use Rattle.trm_cache.specs.Cache.{Line, line_at, holds, view, emptied, cleaned, filled, stored_to, write_word, fill_word}
+use Rattle.trm_cache.specs.declared.record.Cache.{Cache}
 use Rattle.trm_cache.specs.Cache.{count_dirty, first_dirty, all_emptied}
 use Rattle.trm_core.specs.Record.{Lent, visible_of, cache_of, whole, stepping, in_phase, advanced, ended, waited}
 

@@ -13,7 +13,8 @@ use Rattle.trm_reference.specs.Execute.{operand_a, operand_b}
 use Rattle.trm_core.specs.declared.record.Counts.{Counts}
 use Rattle.trm_core.specs.declared.record.Running.{Running}
 use Rattle.trm_core.specs.declared.record.Scalars.{Scalars}
-use Rattle.trm_cache.specs.Cache.{Cache, cache, stride}
+use Rattle.trm_cache.specs.Cache.{cache, stride}
+use Rattle.trm_cache.specs.declared.record.Cache.{Cache}
 
 -- the record: the scalars; registers of bank 0, then of bank 1; per line full, dirty (0 or 1) and block; the words of all lines
 pub record Machine : Type 0 where

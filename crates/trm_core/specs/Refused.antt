@@ -10,7 +10,8 @@ use Rattle.trm_reference.specs.Trace.{After}
 use Rattle.trm_core.specs.declared.record.Counts.{Counts}
 use Rattle.trm_core.specs.declared.record.Running.{Running}
 use Rattle.trm_core.specs.Record.{Machine}
-use Rattle.trm_cache.specs.Cache.{Cache, cache}
+use Rattle.trm_cache.specs.Cache.{cache}
+use Rattle.trm_cache.specs.declared.record.Cache.{Cache}
 use Rattle.trm_core.specs.Record.{Lent, whole, reset_of, in_phase, scalars_of, counts_of}
 use Rattle.trm_core.specs.Refusals.{reset_refusal, clock_refusal, run_refusal, look_refusal, copy_refusal, watch_refusal}
 use Rattle.trm_core.specs.Scenario.{program, record_history}

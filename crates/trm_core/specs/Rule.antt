@@ -14,7 +14,8 @@ use Rattle.trm_reference.specs.Charge.{is_stepped, is_jump, takes_branch, throug
 use Rattle.trm_core.specs.declared.record.Counts.{Counts}
 use Rattle.trm_core.specs.declared.record.Running.{Running}
 use Rattle.trm_core.specs.Record.{Machine}
-use Rattle.trm_cache.specs.Cache.{Cache, Line, line_at, count_dirty}
+use Rattle.trm_cache.specs.Cache.{Line, line_at, count_dirty}
+use Rattle.trm_cache.specs.declared.record.Cache.{Cache}
 use Rattle.trm_core.specs.Record.{visible_of, cache_of, product_at, remainder_at, quotient_at}
 use Rattle.trm_core.specs.Clock.{line_for, hits}
 

@@ -5,7 +5,7 @@
 use Rattle.std.specs.Prelude.{ℕ, ◌+◌, ◌-◌, ◌≤◌, ◌≡◌, true, cond, List, [], ◌∷◌, ◌++◌, length, take, replicate, eqb}
 use Rattle.trm_reference.specs.Geometry.{paper_geometry}
 use Rattle.trm_reference.specs.Trace.{Pins}
-use Rattle.trm_cache.specs.Cache.{Cache}
+use Rattle.trm_cache.specs.declared.record.Cache.{Cache}
 use Rattle.trm_core.specs.declared.record.Scalars.{Scalars}
 use Rattle.trm_core.specs.Record.{Lent, whole}
 use Rattle.trm_core.specs.Clock.{clock_of}

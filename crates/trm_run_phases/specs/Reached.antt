@@ -11,7 +11,7 @@ use Rattle.trm_reference.specs.Visible.{word_at}
 use Rattle.trm_reference.specs.Access.{Answer}
 use Rattle.trm_reference.specs.Trace.{pins_of, After, clocks, end_of, outs_of, finished_in}
 use Rattle.trm_reference.specs.Interrupt.{stalled, interrupt_chosen}
-use Rattle.trm_cache.specs.Cache.{Cache}
+use Rattle.trm_cache.specs.declared.record.Cache.{Cache}
 use Rattle.trm_core.specs.Record.{Lent, whole, scalars_with, counts_of}
 use Rattle.trm_core.specs.Clock.{clock_of}
 use Rattle.trm_core.specs.Claims.{Shaped}

@@ -6,6 +6,7 @@ ghost use Rattle.trm_core.specs.Claims.{Shaped};
 ghost use Rattle.trm_run_machine.specs.Machine.{record_of, parts};
 ghost use Rattle.trm.specs.Promises.{ClockNumbered, with_parts};
 
+use trm_cache::record::Cache;
 use trm_call_refusals::inner::{call_refusals, record_rows, refusal_number};
 use trm_core::record::Scalars;
 use trm_run_machine::inner::one_clock;
@@ -24,23 +25,20 @@ pub fn clock(
     c: Scalars,
     program: &[u32],
     regs: &mut [u32; 16],
-    full: &mut [u8; 16],
-    dirty: &mut [u8; 16],
-    block: &mut [u16; 16],
-    words: &mut [u32; 128],
+    cache: &mut Cache,
     store: &mut [u32],
     pins: u8,
     input: u32,
 ) -> Placed
-    requires { Shaped paper_geometry (record_of (parts c regs.old full.old dirty.old block.old words.old)) }
+    requires { Shaped paper_geometry (record_of (parts c regs.old cache.old)) }
     ensures { ClockNumbered
-        (parts c regs.old full.old dirty.old block.old words.old)
+        (parts c regs.old cache.old)
         program.now store.old pins input
-        (with_parts result regs.new full.new dirty.new block.new words.new)
+        (with_parts result regs.new cache.new)
         store.new }
 {
     let refused = call_refusals::clock_refusal(
-        c, program, regs, full, dirty, block, words, store, pins,
+        c, program, regs, cache, store, pins,
     );
     let n = refusal_number::number_of(refused);
     if !record_rows::accepted(refused) {
@@ -53,7 +51,7 @@ pub fn clock(
         };
     }
     let t = one_clock::one_clock(
-        c, program, regs, full, dirty, block, words, store, pins, input,
+        c, program, regs, cache, store, pins, input,
     );
     let after = t.scalars;
     Placed {

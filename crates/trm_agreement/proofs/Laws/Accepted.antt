@@ -12,7 +12,8 @@ use Rattle.trm_reference.specs.Visible.{Visible, word_at, cache_on}
 use Rattle.trm_reference.specs.History.{Event}
 use Rattle.trm_core.specs.Record.{Machine}
 use Rattle.trm_core.specs.declared.record.Running.{Running}
-use Rattle.trm_cache.specs.Cache.{Cache, line_at}
+use Rattle.trm_cache.specs.Cache.{line_at}
+use Rattle.trm_cache.specs.declared.record.Cache.{Cache}
 use Rattle.trm_core.specs.Record.{visible_of, cache_of, stepping, in_phase}
 use Rattle.trm_core.specs.Clock.{hits, line_for}
 use Rattle.trm_core.specs.Rule.{record_ok}

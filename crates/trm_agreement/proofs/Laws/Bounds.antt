@@ -12,7 +12,7 @@ use Rattle.trm_reference.specs.Access.{is_store}
 use Rattle.trm_reference.specs.History.{dirty_now, dirty_lines}
 use Rattle.trm_reference.specs.Charge.{miss_charge, charge_by}
 use Rattle.trm_reference.specs.Reference.{Reference, charge, misses, evicts}
-use Rattle.trm_cache.specs.Cache.{Cache}
+use Rattle.trm_cache.specs.declared.record.Cache.{Cache}
 use Rattle.trm_core.specs.Clock.{charge_here}
 use Rattle.trm_core.proofs.Laws.Kind.{Kind, quick, second, longer, device, cached, uncached, clearing, kind_of, kind-is, charge_of_kind}
 use Rattle.trm_cache.proofs.Laws.Dirty.{how_many-le}

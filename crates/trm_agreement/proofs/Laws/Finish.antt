@@ -20,7 +20,8 @@ use Rattle.trm_reference.specs.Charge.{turns_cache_off}
 use Rattle.trm_reference.specs.Reference.{carry_out, memory_after, history_after}
 use Rattle.trm_reference.proofs.Laws.Execute.{execute-on, execute-narrow}
 use Rattle.trm_core.specs.Record.{Machine}
-use Rattle.trm_cache.specs.Cache.{Cache, Line, line_at, view, stored_to, count_dirty}
+use Rattle.trm_cache.specs.Cache.{Line, line_at, view, stored_to, count_dirty}
+use Rattle.trm_cache.specs.declared.record.Cache.{Cache}
 use Rattle.trm_core.specs.Record.{visible_of, cache_of}
 use Rattle.trm_core.specs.Clock.{cache_after, store_after, finish}
 use Rattle.trm_core.proofs.Laws.Kind.{Kind, quick, second, longer, device, cached, uncached, clearing, Is, is_clearing, is_cached}

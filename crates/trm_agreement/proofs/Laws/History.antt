@@ -9,7 +9,8 @@ use lib.Dec.{eqb}
 use borrow.Author.Tests.{eqb-true, eq-eqb, ne_eqb}
 use Rattle.trm_reference.specs.Geometry.{Geometry, line_of}
 use Rattle.trm_reference.specs.History.{Touch, Event, access, emptying, since, last_in, stored_since, last_dirty, dirty_now, dirty_lines}
-use Rattle.trm_cache.specs.Cache.{Line, line_at, holds, count_dirty, Cache}
+use Rattle.trm_cache.specs.Cache.{Line, line_at, holds, count_dirty}
+use Rattle.trm_cache.specs.declared.record.Cache.{Cache}
 use Rattle.trm_cache.proofs.Laws.Cache.{holds-empty}
 use Rattle.trm_cache.proofs.Laws.Dirty.{how_many-ext}
 

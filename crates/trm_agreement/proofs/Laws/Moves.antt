@@ -16,7 +16,8 @@ use Rattle.trm_reference.specs.History.{since, last_in, last_dirty, refills_now,
 use Rattle.trm_reference.specs.Reference.{Reference, carry_out, spend, take_off, misses, evicts, refill_over, writeback_over}
 use Rattle.trm_core.specs.Record.{Machine}
 use Rattle.trm_core.specs.declared.record.Running.{Running}
-use Rattle.trm_cache.specs.Cache.{Cache, line_at, view, cleaned, write_word}
+use Rattle.trm_cache.specs.Cache.{line_at, view, cleaned, write_word}
+use Rattle.trm_cache.specs.declared.record.Cache.{Cache}
 use Rattle.trm_core.specs.Record.{visible_of, cache_of, whole, advanced}
 use Rattle.trm_core.specs.Clock.{moved, quiet, written}
 use Rattle.trm_core.proofs.Laws.Kind.{Kind, cached, clearing, kind_of, Is, is-of, is_cached, is_clearing}

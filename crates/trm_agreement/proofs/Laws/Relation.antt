@@ -17,7 +17,8 @@ use Rattle.trm_reference.specs.Reference.{Reference}
 use Rattle.trm_reference.proofs.Laws.Execute.{Narrow}
 use Rattle.trm_core.specs.Record.{Machine}
 use Rattle.trm_core.specs.declared.record.Running.{Running}
-use Rattle.trm_cache.specs.Cache.{line_at, holds, view, count_dirty, first_dirty, Cache}
+use Rattle.trm_cache.specs.Cache.{line_at, holds, view, count_dirty, first_dirty}
+use Rattle.trm_cache.specs.declared.record.Cache.{Cache}
 use Rattle.trm_core.specs.Record.{Lent, visible_of, cache_of, stepping, in_phase}
 use Rattle.trm_core.specs.Rule.{due_ok}
 use Rattle.trm_core.proofs.Laws.Fit.{Fit}

@@ -17,7 +17,8 @@ use Rattle.trm_reference.specs.Access.{target_block, target_line}
 use Rattle.trm_reference.specs.History.{since, last_in}
 use Rattle.trm_reference.specs.Reference.{spend, misses, evicts, refill_over}
 use Rattle.trm_core.specs.Record.{Machine}
-use Rattle.trm_cache.specs.Cache.{Cache, Line, line_at, holds, view, emptied, cleaned, write_word, count_dirty, first_dirty}
+use Rattle.trm_cache.specs.Cache.{Line, line_at, holds, view, emptied, cleaned, write_word, count_dirty, first_dirty}
+use Rattle.trm_cache.specs.declared.record.Cache.{Cache}
 use Rattle.trm_core.specs.Record.{visible_of, cache_of, in_phase}
 use Rattle.trm_core.specs.Clock.{moved, quiet, written, writing}
 use Rattle.trm_core.proofs.Laws.Kind.{cached, clearing, kind_of, Is, is-of}

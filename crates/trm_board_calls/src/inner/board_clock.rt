@@ -12,6 +12,7 @@ ghost use Rattle.trm_board_calls.specs.Coded.{board_at, stepped, Ready};
 
 use trm_board::inner::{device_clock, device_reads};
 use trm_board::record::Devices;
+use trm_cache::record::Cache;
 use trm_clock_device::inner::device_read;
 use trm_core::record::Scalars;
 use trm_run_machine::inner::one_clock;
@@ -44,21 +45,18 @@ pub fn board_clock(
     d: Devices,
     program: &[u32],
     regs: &mut [u32; 16],
-    full: &mut [u8; 16],
-    dirty: &mut [u8; 16],
-    block: &mut [u16; 16],
-    words: &mut [u32; 128],
+    cache: &mut Cache,
     store: &mut [u32],
     joined: bool,
     given: u8,
     switches: u8,
 ) -> Stepped
-    requires { Ready program.now (board_at (parts c regs.old full.old dirty.old block.old words.old) d store.old) 1 }
+    requires { Ready program.now (board_at (parts c regs.old cache.old) d store.old) 1 }
     ensures { stepped
-        (parts result.scalars regs.new full.new dirty.new block.new words.new)
+        (parts result.scalars regs.new cache.new)
         result.devices store.new result.level result.byte result.word result.finished
         ≡ board_clock paper_timing (record_core paper_geometry program.now) (board_at
-        (parts c regs.old full.old dirty.old block.old words.old)
+        (parts c regs.old cache.old)
         d store.old) (inputs_of joined given switches) }
 {
     let serial = d.serial;
@@ -67,7 +65,7 @@ pub fn board_clock(
     let device = device_read::device_read(c, regs, program, store.len() as u64, pins);
     let input = device_reads::reply_of(serial, c.counts.clocks, switches, device);
     let t = one_clock::one_clock(
-        c, program, regs, full, dirty, block, words, store, pins, input,
+        c, program, regs, cache, store, pins, input,
     );
     let after = t.scalars;
     let line = line_of(joined, level, given);

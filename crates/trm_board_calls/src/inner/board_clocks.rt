@@ -11,6 +11,7 @@ ghost use Rattle.trm_board_calls.specs.Running.{stage, At, Some, Turned};
 use crate::inner::{board_clock, quiet_devices};
 use trm_board::inner::stretch;
 use trm_board::record::Devices;
+use trm_cache::record::Cache;
 use trm_core::record::Scalars;
 use trm_run_machine::inner::quiet_clocks;
 
@@ -28,10 +29,7 @@ fn quiet_ahead(
     g: Gone,
     program: &[u32],
     regs: &mut [u32; 16],
-    full: &mut [u8; 16],
-    dirty: &mut [u8; 16],
-    block: &mut [u16; 16],
-    words: &mut [u32; 128],
+    cache: &mut Cache,
     store: &mut [u32],
     joined: bool,
     given: &[u8],
@@ -40,13 +38,13 @@ fn quiet_ahead(
     outs: &mut [u32],
 ) -> Gone
     requires { Some program.now joined given.now (stage
-        (board_at (parts g.scalars regs.old full.old dirty.old block.old words.old) g.devices store.old)
+        (board_at (parts g.scalars regs.old cache.old) g.devices store.old)
         g.finished g.at levels.old bytes.old outs.old) }
     ensures { ((ws : List ℕ) → Turned program.now joined given.now ws (stage
-        (board_at (parts g.scalars regs.old full.old dirty.old block.old words.old)
+        (board_at (parts g.scalars regs.old cache.old)
         g.devices store.old) g.finished g.at levels.old bytes.old outs.old)
         (stage
-        (board_at (parts result.scalars regs.new full.new dirty.new block.new words.new)
+        (board_at (parts result.scalars regs.new cache.new)
         result.devices store.new) result.finished result.at levels.new bytes.new outs.new))
         × (g.at ≤ result.at) }
 {
@@ -60,10 +58,7 @@ fn quiet_ahead(
         c,
         program,
         regs,
-        full,
-        dirty,
-        block,
-        words,
+        cache,
         store,
         &lines[..k],
     );
@@ -85,10 +80,7 @@ fn next_clock(
     g: Gone,
     program: &[u32],
     regs: &mut [u32; 16],
-    full: &mut [u8; 16],
-    dirty: &mut [u8; 16],
-    block: &mut [u16; 16],
-    words: &mut [u32; 128],
+    cache: &mut Cache,
     store: &mut [u32],
     joined: bool,
     given: &[u8],
@@ -98,13 +90,13 @@ fn next_clock(
     outs: &mut [u32],
 ) -> Gone
     requires { At program.now joined given.now switches.now (stage
-        (board_at (parts g.scalars regs.old full.old dirty.old block.old words.old) g.devices store.old)
+        (board_at (parts g.scalars regs.old cache.old) g.devices store.old)
         g.finished g.at levels.old bytes.old outs.old) × (g.at < length given.now) }
     ensures { Turned program.now joined given.now switches.now (stage
-        (board_at (parts g.scalars regs.old full.old dirty.old block.old words.old)
+        (board_at (parts g.scalars regs.old cache.old)
         g.devices store.old) g.finished g.at levels.old bytes.old outs.old)
         (stage
-        (board_at (parts result.scalars regs.new full.new dirty.new block.new words.new)
+        (board_at (parts result.scalars regs.new cache.new)
         result.devices store.new) result.finished result.at levels.new bytes.new outs.new)
         × (result.at ≡ g.at + 1) }
 {
@@ -116,10 +108,7 @@ fn next_clock(
         d,
         program,
         regs,
-        full,
-        dirty,
-        block,
-        words,
+        cache,
         store,
         joined,
         given[at],
@@ -144,10 +133,7 @@ pub fn board_clocks(
     d: Devices,
     program: &[u32],
     regs: &mut [u32; 16],
-    full: &mut [u8; 16],
-    dirty: &mut [u8; 16],
-    block: &mut [u16; 16],
-    words: &mut [u32; 128],
+    cache: &mut Cache,
     store: &mut [u32],
     joined: bool,
     given: &[u8],
@@ -156,12 +142,12 @@ pub fn board_clocks(
     bytes: &mut [u8],
     outs: &mut [u32],
 ) -> Gone
-    requires { Ready program.now (board_at (parts c regs.old full.old dirty.old block.old words.old) d store.old)
+    requires { Ready program.now (board_at (parts c regs.old cache.old) d store.old)
         (length given.now) × (length given.now ≡ length switches.now) × (length levels.old ≡ length given.now)
         × (length bytes.old ≡ length given.now) × (length outs.old ≡ length given.now) }
     ensures { record {
       state = board_at
-          (parts result.scalars regs.new full.new dirty.new block.new words.new)
+          (parts result.scalars regs.new cache.new)
           result.devices store.new;
       used = length given.now;
       finished = result.finished;
@@ -170,7 +156,7 @@ pub fn board_clocks(
       words = outs.new;
     }
         ≡ board_run_of program.now (board_at
-        (parts c regs.old full.old dirty.old block.old words.old)
+        (parts c regs.old cache.old)
         d store.old) joined given.now switches.now }
 {
     let mut g = Gone {
@@ -181,11 +167,11 @@ pub fn board_clocks(
     };
     while g.at < given.len() {
         g = quiet_ahead(
-            g, program, regs, full, dirty, block, words, store, joined, given, levels, bytes, outs,
+            g, program, regs, cache, store, joined, given, levels, bytes, outs,
         );
         if g.at < given.len() {
             g = next_clock(
-                g, program, regs, full, dirty, block, words, store, joined, given, switches,
+                g, program, regs, cache, store, joined, given, switches,
                 levels, bytes, outs,
             );
         }

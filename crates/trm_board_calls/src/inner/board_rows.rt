@@ -24,7 +24,7 @@ fn board_refusal(b: Board, program: &[u32], store: &[u32]) -> Refusal
     let block = m.block;
     let words = m.words;
     let refused = record_rows::record_refusal(
-        c, program, &regs, &full, &dirty, &block, &words, store,
+        c, program, &regs, &cache, store,
     );
     if !record_rows::accepted(refused) {
         return refused;

@@ -13,7 +13,8 @@ use lib.Dec.{eqb}
 use borrow.Author.Tests.{eq-eqb, ne_eqb}
 use lib.Seq.{get_or-set_same, get_or-set_other}
 use Rattle.trm_reference.specs.Geometry.{paper_geometry}
-use Rattle.trm_cache.specs.Cache.{Cache, view, copy_of}
+use Rattle.trm_cache.specs.Cache.{view, copy_of}
+use Rattle.trm_cache.specs.declared.record.Cache.{Cache}
 use Rattle.trm_cache.proofs.Laws.Dirty.{copy_is}
 use Rattle.trm_core.specs.declared.sighting.Sighting.TheVariants.{Clock, Nowhere}
 use Rattle.trm_core.specs.Observe.{shows_write, SightingHolds}

@@ -4,44 +4,39 @@
 ghost use Rattle.std.specs.Prelude.{◌≡◌, true, ◌%◌, length};
 ghost use Rattle.trm_word.specs.Address.{store_length_ok};
 ghost use Rattle.trm_reference.specs.Geometry.{paper_geometry};
-ghost use Rattle.trm_cache.specs.Cache.{cache, view, copy_of};
+ghost use Rattle.trm_cache.specs.Cache.{view, copy_of};
 
-use trm_cache::inner::cache_lines;
+use trm_cache::record::Cache;
+
 
 // The word at an address, taken mod the store's length.
 pub fn look(
-    full: &[u8; 16],
-    dirty: &[u8; 16],
-    block: &[u16; 16],
-    words: &[u32; 128],
+    cache: &Cache,
     store: &[u32],
     address: u32,
 ) -> u32
     requires { store_length_ok (length store.now) ≡ true }
-    ensures { result ≡ view paper_geometry (cache full.now dirty.now block.now words.now)
+    ensures { result ≡ view paper_geometry cache.now
         store.now (address % length store.now) }
 {
     let a = address as usize % store.len();
-    cache_lines::peek(full, dirty, block, words, store, a)
+    cache.peek(store, a)
 }
 
 // All words, in address order.
 pub fn copy(
-    full: &[u8; 16],
-    dirty: &[u8; 16],
-    block: &[u16; 16],
-    words: &[u32; 128],
+    cache: &Cache,
     store: &[u32],
     buffer: &mut [u32],
 )
     requires { length buffer.old ≡ length store.now }
     ensures { buffer.new
-        ≡ copy_of paper_geometry (cache full.now dirty.now block.now words.now)
+        ≡ copy_of paper_geometry cache.now
         store.now }
 {
     let mut i: usize = 0;
     while i < store.len() {
-        buffer[i] = cache_lines::peek(full, dirty, block, words, store, i);
+        buffer[i] = cache.peek(store, i);
         i += 1;
     }
 }

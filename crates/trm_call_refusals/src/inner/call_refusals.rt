@@ -3,13 +3,13 @@
 // A call that takes the record checks rows 3, 4 and 5 first, then its other rows, in the table's order.
 ghost use Rattle.std.specs.Prelude.{◌≡◌};
 ghost use Rattle.trm_reference.specs.Geometry.{paper_geometry};
-ghost use Rattle.trm_cache.specs.Cache.{cache};
 ghost use Rattle.trm_core.specs.Record.{whole};
 ghost use Rattle.trm_core.specs.Refusals.{reset_refusal, clock_refusal, run_refusal, look_refusal, copy_refusal, watch_refusal};
 ghost use Rattle.trm_call_refusals.specs.Numbers.{number_of};
 
 use crate::inner::{record_rows, table_rows};
 use crate::refusal::Refusal;
+use trm_cache::record::Cache;
 use trm_core::record::Scalars;
 
 // A reset, which takes only the store.
@@ -27,17 +27,14 @@ pub fn clock_refusal(
     c: Scalars,
     program: &[u32],
     regs: &[u32; 16],
-    full: &[u8; 16],
-    dirty: &[u8; 16],
-    block: &[u16; 16],
-    words: &[u32; 128],
+    cache: &Cache,
     store: &[u32],
     pins: u8,
 ) -> Refusal
     ensures { number_of result ≡ clock_refusal paper_geometry program.now (whole c regs.now
-        (cache full.now dirty.now block.now words.now)) store.now pins }
+        cache.now) store.now pins }
 {
-    let refused = record_rows::record_refusal(c, program, regs, full, dirty, block, words, store);
+    let refused = record_rows::record_refusal(c, program, regs, cache, store);
     if !record_rows::accepted(refused) {
         return refused;
     }
@@ -55,10 +52,7 @@ pub fn run_refusal(
     c: Scalars,
     program: &[u32],
     regs: &[u32; 16],
-    full: &[u8; 16],
-    dirty: &[u8; 16],
-    block: &[u16; 16],
-    words: &[u32; 128],
+    cache: &Cache,
     store: &[u32],
     pins: &[u8],
     inputs: &[u32],
@@ -66,10 +60,10 @@ pub fn run_refusal(
     outs: &[u32],
 ) -> Refusal
     ensures { number_of result ≡ run_refusal paper_geometry program.now (whole c regs.now
-        (cache full.now dirty.now block.now words.now))
+        cache.now)
         store.now pins.now inputs.now bytes.now outs.now }
 {
-    let refused = record_rows::record_refusal(c, program, regs, full, dirty, block, words, store);
+    let refused = record_rows::record_refusal(c, program, regs, cache, store);
     if !record_rows::accepted(refused) {
         return refused;
     }
@@ -90,17 +84,14 @@ pub fn look_refusal(
     c: Scalars,
     program: &[u32],
     regs: &[u32; 16],
-    full: &[u8; 16],
-    dirty: &[u8; 16],
-    block: &[u16; 16],
-    words: &[u32; 128],
+    cache: &Cache,
     store: &[u32],
     address: u32,
 ) -> Refusal
     ensures { number_of result ≡ look_refusal paper_geometry program.now (whole c regs.now
-        (cache full.now dirty.now block.now words.now)) store.now address }
+        cache.now) store.now address }
 {
-    let refused = record_rows::record_refusal(c, program, regs, full, dirty, block, words, store);
+    let refused = record_rows::record_refusal(c, program, regs, cache, store);
     if !record_rows::accepted(refused) {
         return refused;
     }
@@ -115,18 +106,15 @@ pub fn copy_refusal(
     c: Scalars,
     program: &[u32],
     regs: &[u32; 16],
-    full: &[u8; 16],
-    dirty: &[u8; 16],
-    block: &[u16; 16],
-    words: &[u32; 128],
+    cache: &Cache,
     store: &[u32],
     buffer: &[u32],
 ) -> Refusal
     ensures { number_of result ≡ copy_refusal paper_geometry program.now (whole c regs.now
-        (cache full.now dirty.now block.now words.now))
+        cache.now)
         store.now buffer.now }
 {
-    let refused = record_rows::record_refusal(c, program, regs, full, dirty, block, words, store);
+    let refused = record_rows::record_refusal(c, program, regs, cache, store);
     if !record_rows::accepted(refused) {
         return refused;
     }

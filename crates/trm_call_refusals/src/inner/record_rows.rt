@@ -3,12 +3,12 @@
 // One test for each row, in the table's order.
 ghost use Rattle.std.specs.Prelude.{◌≡◌, eqb};
 ghost use Rattle.trm_reference.specs.Geometry.{paper_geometry};
-ghost use Rattle.trm_cache.specs.Cache.{cache};
 ghost use Rattle.trm_core.specs.Record.{whole};
 ghost use Rattle.trm_core.specs.Refusals.{record_rows};
 ghost use Rattle.trm_call_refusals.specs.Numbers.{number_of};
 
 use crate::refusal::Refusal;
+use trm_cache::record::Cache;
 use trm_core::record::Scalars;
 
 // Whether a call is not refused.
@@ -32,14 +32,11 @@ pub fn record_refusal(
     c: Scalars,
     program: &[u32],
     regs: &[u32; 16],
-    full: &[u8; 16],
-    dirty: &[u8; 16],
-    block: &[u16; 16],
-    words: &[u32; 128],
+    cache: &Cache,
     store: &[u32],
 ) -> Refusal
     ensures { number_of result ≡ record_rows paper_geometry program.now (whole c regs.now
-        (cache full.now dirty.now block.now words.now)) store.now 0 }
+        cache.now) store.now 0 }
 {
     if !super::table_rows::program_ok(program) {
         return Refusal::Program;
@@ -51,10 +48,7 @@ pub fn record_refusal(
         c,
         program,
         regs,
-        full,
-        dirty,
-        block,
-        words,
+        cache,
         store.len() as u64,
     ) {
         return Refusal::Record;

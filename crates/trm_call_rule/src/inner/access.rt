@@ -6,10 +6,10 @@ ghost use Rattle.trm_word.specs.Address.{store_length_ok};
 ghost use Rattle.trm_reference.specs.Geometry.{paper_geometry};
 ghost use Rattle.trm_reference.specs.Access.{is_memory, is_access, to_memory, to_device, target_block, target_line};
 ghost use Rattle.trm_reference.specs.Charge.{is_stepped, is_jump, takes_branch, through_cache, without_cache};
-ghost use Rattle.trm_cache.specs.Cache.{cache};
 ghost use Rattle.trm_core.specs.Record.{gathered};
 ghost use Rattle.trm_core.specs.Clock.{line_for, hits};
 
+use trm_cache::record::Cache;
 use trm_core::record::Scalars;
 use trm_word::inner::address::Place;
 
@@ -114,54 +114,45 @@ pub fn takes_branch(c: Scalars, regs: &[u32; 16], w: u32) -> bool
 pub fn line_for_full(
     c: Scalars,
     regs: &[u32; 16],
-    full: &[u8; 16],
-    dirty: &[u8; 16],
-    block: &[u16; 16],
-    words: &[u32; 128],
+    cache: &Cache,
     w: u32,
     n: u64,
 ) -> bool
     requires { store_length_ok n ≡ true }
     ensures { result ≡ (line_for paper_geometry w n (gathered c regs.now)
-        (cache full.now dirty.now block.now words.now)).full }
+        cache.now).full }
 {
-    trm_cache::inner::cache_lines::line_full(full, dirty, block, words, target_line(c, regs, w, n))
+    cache.line_full(target_line(c, regs, w, n))
 }
 
 // Whether the line of the access is dirty.
 pub fn line_for_dirty(
     c: Scalars,
     regs: &[u32; 16],
-    full: &[u8; 16],
-    dirty: &[u8; 16],
-    block: &[u16; 16],
-    words: &[u32; 128],
+    cache: &Cache,
     w: u32,
     n: u64,
 ) -> bool
     requires { store_length_ok n ≡ true }
     ensures { result ≡ (line_for paper_geometry w n (gathered c regs.now)
-        (cache full.now dirty.now block.now words.now)).dirty }
+        cache.now).dirty }
 {
-    trm_cache::inner::cache_lines::line_dirty(full, dirty, block, words, target_line(c, regs, w, n))
+    cache.line_dirty(target_line(c, regs, w, n))
 }
 
 // Whether the line of the access holds its block.
 pub fn hits(
     c: Scalars,
     regs: &[u32; 16],
-    full: &[u8; 16],
-    dirty: &[u8; 16],
-    block: &[u16; 16],
-    words: &[u32; 128],
+    cache: &Cache,
     w: u32,
     n: u64,
 ) -> bool
     requires { store_length_ok n ≡ true }
     ensures { result ≡ hits paper_geometry w n (gathered c regs.now)
-        (cache full.now dirty.now block.now words.now) }
+        cache.now }
 {
     let l = target_line(c, regs, w, n);
     let b = target_block(c, regs, w, n);
-    trm_cache::inner::cache_lines::line_holds(full, dirty, block, words, l, b)
+    cache.line_holds(l, b)
 }

@@ -7,7 +7,7 @@ ghost use Rattle.trm_word.specs.Address.{store_length_ok};
 ghost use Rattle.trm_reference.specs.Geometry.{paper_geometry};
 ghost use Rattle.trm_reference.specs.Access.{is_load, to_memory, to_device};
 ghost use Rattle.trm_reference.specs.Charge.{turns_cache_off};
-ghost use Rattle.trm_cache.specs.Cache.{cache, line_at, count_dirty};
+ghost use Rattle.trm_cache.specs.Cache.{line_at, count_dirty};
 ghost use Rattle.trm_core.specs.Record.{gathered, whole, product_at, remainder_at, quotient_at};
 ghost use Rattle.trm_core.specs.Clock.{line_for, hits};
 ghost use Rattle.trm_core.specs.Rule.{widths_ok, counts_ok, registers_ok, arithmetic_ok};
@@ -15,6 +15,7 @@ ghost use Rattle.trm_core.specs.Rule.{writeback_ok, refill_ok, wait_ok, due_ok, 
 ghost use Rattle.trm_core.specs.Rule.{marks_ok, line_ok, lines_ok, record_ok};
 
 use trm_alu::inner::divide::Divider;
+use trm_cache::record::Cache;
 use trm_core::record::{Counts, Scalars};
 
 // PC 12 bits, each flag 1, status 4.
@@ -136,11 +137,11 @@ fn wait_ok(c: Scalars, regs: &[u32; 16], w: u32, n: u64, count: u64) -> bool
 }
 
 // Whether the cache has a dirty line.
-fn any_dirty(full: &[u8; 16], dirty: &[u8; 16], block: &[u16; 16], words: &[u32; 128]) -> bool
+fn any_dirty(cache: &Cache) -> bool
     ensures { result ≡ not (eqb (count_dirty paper_geometry
-        (cache full.now dirty.now block.now words.now)) 0) }
+        cache.now) 0) }
 {
-    let d = trm_cache::inner::switch_off::dirty_lines(full, dirty, block, words);
+    let d = cache.dirty_lines();
     d.count != 0
 }
 
@@ -148,73 +149,64 @@ fn any_dirty(full: &[u8; 16], dirty: &[u8; 16], block: &[u16; 16], words: &[u32;
 fn evicts(
     c: Scalars,
     regs: &[u32; 16],
-    full: &[u8; 16],
-    dirty: &[u8; 16],
-    block: &[u16; 16],
-    words: &[u32; 128],
+    cache: &Cache,
     w: u32,
     n: u64,
 ) -> bool
     requires { store_length_ok n ≡ true }
     ensures { result ≡ ((line_for paper_geometry w n (gathered c regs.now)
-        (cache full.now dirty.now block.now words.now)).full
+        cache.now).full
         && (line_for paper_geometry w n (gathered c regs.now)
-        (cache full.now dirty.now block.now words.now)).dirty
+        cache.now).dirty
         && not (hits paper_geometry w n (gathered c regs.now)
-        (cache full.now dirty.now block.now words.now))) }
+        cache.now)) }
 {
-    if !super::access::line_for_full(c, regs, full, dirty, block, words, w, n) {
+    if !super::access::line_for_full(c, regs, cache, w, n) {
         return false;
     }
-    if !super::access::line_for_dirty(c, regs, full, dirty, block, words, w, n) {
+    if !super::access::line_for_dirty(c, regs, cache, w, n) {
         return false;
     }
-    !super::access::hits(c, regs, full, dirty, block, words, w, n)
+    !super::access::hits(c, regs, cache, w, n)
 }
 
 // Phase 2, write-back.
 fn writeback_ok(
     c: Scalars,
     regs: &[u32; 16],
-    full: &[u8; 16],
-    dirty: &[u8; 16],
-    block: &[u16; 16],
-    words: &[u32; 128],
+    cache: &Cache,
     w: u32,
     n: u64,
     count: u64,
 ) -> bool
     requires { store_length_ok n ≡ true }
     ensures { result ≡ writeback_ok paper_geometry w n count (gathered c regs.now)
-        (cache full.now dirty.now block.now words.now) }
+        cache.now }
 {
     if count >= 10 {
         return false;
     }
     if super::access::to_memory(c, regs, w, n) {
-        return evicts(c, regs, full, dirty, block, words, w, n);
+        return evicts(c, regs, cache, w, n);
     }
     if !trm_clock_operands::inner::operands::turns_cache_off(c, regs, w) {
         return false;
     }
-    any_dirty(full, dirty, block, words)
+    any_dirty(cache)
 }
 
 // Phase 3, refill.
 fn refill_ok(
     c: Scalars,
     regs: &[u32; 16],
-    full: &[u8; 16],
-    dirty: &[u8; 16],
-    block: &[u16; 16],
-    words: &[u32; 128],
+    cache: &Cache,
     w: u32,
     n: u64,
     count: u64,
 ) -> bool
     requires { store_length_ok n ≡ true }
     ensures { result ≡ refill_ok paper_geometry w n count (gathered c regs.now)
-        (cache full.now dirty.now block.now words.now) }
+        cache.now }
 {
     if count >= 10 {
         return false;
@@ -222,26 +214,23 @@ fn refill_ok(
     if !super::access::through_cache(c, regs, w, n) {
         return false;
     }
-    !super::access::line_for_full(c, regs, full, dirty, block, words, w, n)
+    !super::access::line_for_full(c, regs, cache, w, n)
 }
 
 // Phase 5 for 11 clearing status bit 3: no line is dirty.
 fn off_due(
     c: Scalars,
     regs: &[u32; 16],
-    full: &[u8; 16],
-    dirty: &[u8; 16],
-    block: &[u16; 16],
-    words: &[u32; 128],
+    cache: &Cache,
     w: u32,
 ) -> bool
     ensures { result ≡ (turns_cache_off w (gathered c regs.now)
-        && eqb (count_dirty paper_geometry (cache full.now dirty.now block.now words.now)) 0) }
+        && eqb (count_dirty paper_geometry cache.now) 0) }
 {
     if !trm_clock_operands::inner::operands::turns_cache_off(c, regs, w) {
         return false;
     }
-    let d = trm_cache::inner::switch_off::dirty_lines(full, dirty, block, words);
+    let d = cache.dirty_lines();
     d.count == 0
 }
 
@@ -260,37 +249,31 @@ fn device_due(c: Scalars, regs: &[u32; 16], w: u32, n: u64) -> bool
 fn hit_due(
     c: Scalars,
     regs: &[u32; 16],
-    full: &[u8; 16],
-    dirty: &[u8; 16],
-    block: &[u16; 16],
-    words: &[u32; 128],
+    cache: &Cache,
     w: u32,
     n: u64,
 ) -> bool
     requires { store_length_ok n ≡ true }
     ensures { result ≡ (to_memory w (gathered c regs.now) n && hits paper_geometry w n (gathered c regs.now)
-        (cache full.now dirty.now block.now words.now)) }
+        cache.now) }
 {
     if !super::access::to_memory(c, regs, w, n) {
         return false;
     }
-    super::access::hits(c, regs, full, dirty, block, words, w, n)
+    super::access::hits(c, regs, cache, w, n)
 }
 
 // Phase 5, last clock due.
 fn due_ok(
     c: Scalars,
     regs: &[u32; 16],
-    full: &[u8; 16],
-    dirty: &[u8; 16],
-    block: &[u16; 16],
-    words: &[u32; 128],
+    cache: &Cache,
     w: u32,
     n: u64,
 ) -> bool
     requires { store_length_ok n ≡ true }
     ensures { result ≡ due_ok paper_geometry w n (gathered c regs.now)
-        (cache full.now dirty.now block.now words.now) }
+        cache.now }
 {
     if super::access::takes_branch(c, regs, w) {
         return true;
@@ -301,29 +284,26 @@ fn due_ok(
     if super::access::is_jump(w) {
         return true;
     }
-    if off_due(c, regs, full, dirty, block, words, w) {
+    if off_due(c, regs, cache, w) {
         return true;
     }
     if device_due(c, regs, w, n) {
         return true;
     }
-    hit_due(c, regs, full, dirty, block, words, w, n)
+    hit_due(c, regs, cache, w, n)
 }
 
 // Phase and count.
 fn phase_ok(
     c: Scalars,
     regs: &[u32; 16],
-    full: &[u8; 16],
-    dirty: &[u8; 16],
-    block: &[u16; 16],
-    words: &[u32; 128],
+    cache: &Cache,
     w: u32,
     n: u64,
 ) -> bool
     requires { store_length_ok n ≡ true }
     ensures { result ≡ phase_ok paper_geometry w n c.running (gathered c regs.now)
-        (cache full.now dirty.now block.now words.now) }
+        cache.now }
 {
     if c.running.phase == 0 {
         return c.running.count == 0;
@@ -332,10 +312,10 @@ fn phase_ok(
         return arithmetic_ok(w, c.running.count);
     }
     if c.running.phase == 2 {
-        return writeback_ok(c, regs, full, dirty, block, words, w, n, c.running.count);
+        return writeback_ok(c, regs, cache, w, n, c.running.count);
     }
     if c.running.phase == 3 {
-        return refill_ok(c, regs, full, dirty, block, words, w, n, c.running.count);
+        return refill_ok(c, regs, cache, w, n, c.running.count);
     }
     if c.running.phase == 4 {
         return wait_ok(c, regs, w, n, c.running.count);
@@ -346,20 +326,17 @@ fn phase_ok(
     if c.running.count != 0 {
         return false;
     }
-    due_ok(c, regs, full, dirty, block, words, w, n)
+    due_ok(c, regs, cache, w, n)
 }
 
 // Each of full and dirty has one bit.
 fn marks_ok(
-    full: &[u8; 16],
-    dirty: &[u8; 16],
-    block: &[u16; 16],
-    words: &[u32; 128],
+    cache: &Cache,
     l: usize,
 ) -> bool
     requires { l < 16 }
     ensures { result ≡ marks_ok
-        (cache full.now dirty.now block.now words.now) l }
+        cache.now l }
 {
     if full[l] >= 2 {
         return false;
@@ -371,18 +348,15 @@ fn marks_ok(
 fn full_ok(
     on: bool,
     n: u64,
-    full: &[u8; 16],
-    dirty: &[u8; 16],
-    block: &[u16; 16],
-    words: &[u32; 128],
+    cache: &Cache,
     l: usize,
 ) -> bool
     requires { (l < 16)
-        × ((line_at paper_geometry (cache full.now dirty.now block.now words.now) l).full ≡ true) }
+        × ((line_at paper_geometry cache.now l).full ≡ true) }
     ensures { result ≡ line_ok paper_geometry on n l
-        (line_at paper_geometry (cache full.now dirty.now block.now words.now) l) }
+        (line_at paper_geometry cache.now l) }
 {
-    let b = trm_cache::inner::cache_lines::line_block(full, dirty, block, words, l);
+    let b = cache.line_block(l);
     if !on {
         return false;
     }
@@ -407,42 +381,36 @@ fn empty_ok(dirty: &[u8; 16], block: &[u16; 16], l: usize) -> bool
 fn good_line(
     on: bool,
     n: u64,
-    full: &[u8; 16],
-    dirty: &[u8; 16],
-    block: &[u16; 16],
-    words: &[u32; 128],
+    cache: &Cache,
     l: usize,
 ) -> bool
     requires { l < 16 }
     ensures { result ≡ (marks_ok
-        (cache full.now dirty.now block.now words.now) l
+        cache.now l
         && line_ok paper_geometry on n l
-        (line_at paper_geometry (cache full.now dirty.now block.now words.now) l)) }
+        (line_at paper_geometry cache.now l)) }
 {
     if full[l] == 0 {
         return empty_ok(dirty, block, l);
     }
-    if !marks_ok(full, dirty, block, words, l) {
+    if !marks_ok(cache, l) {
         return false;
     }
-    full_ok(on, n, full, dirty, block, words, l)
+    full_ok(on, n, cache, l)
 }
 
 // Every line of the cache.
 fn lines_ok(
     on: bool,
     n: u64,
-    full: &[u8; 16],
-    dirty: &[u8; 16],
-    block: &[u16; 16],
-    words: &[u32; 128],
+    cache: &Cache,
 ) -> bool
     ensures { result ≡ lines_ok paper_geometry on n
-        (cache full.now dirty.now block.now words.now) }
+        cache.now }
 {
     let mut l: usize = 0;
     while l < 16 {
-        if !good_line(on, n, full, dirty, block, words, l) {
+        if !good_line(on, n, cache, l) {
             return false;
         }
         l += 1;
@@ -455,21 +423,18 @@ pub fn record_ok(
     c: Scalars,
     program: &[u32],
     regs: &[u32; 16],
-    full: &[u8; 16],
-    dirty: &[u8; 16],
-    block: &[u16; 16],
-    words: &[u32; 128],
+    cache: &Cache,
     n: u64,
 ) -> bool
     requires { store_length_ok n ≡ true }
     ensures { result ≡ record_ok paper_geometry program.now n (whole c regs.now
-        (cache full.now dirty.now block.now words.now)) }
+        cache.now) }
 {
     let w = trm_clock_operands::inner::operands::word_at(program, c.pc);
     if !widths_ok(c, regs) {
         return false;
     }
-    if !phase_ok(c, regs, full, dirty, block, words, w, n) {
+    if !phase_ok(c, regs, cache, w, n) {
         return false;
     }
     if !registers_ok(c, regs, w) {
@@ -480,5 +445,5 @@ pub fn record_ok(
         return false;
     }
     let on = trm_clock_operands::inner::operands::cache_on(c, regs);
-    lines_ok(on, n, full, dirty, block, words)
+    lines_ok(on, n, cache)
 }

@@ -5,12 +5,12 @@ ghost use Rattle.std.specs.Prelude.{◌≡◌, true, ℕ, ◌+◌, ◌*◌, ◌�
 ghost use Rattle.trm_word.specs.Address.{store_length_ok};
 ghost use Rattle.trm_reference.specs.Charge.{turns_cache_off};
 ghost use Rattle.trm_reference.specs.Geometry.{paper_geometry};
-ghost use Rattle.trm_cache.specs.Cache.{cache, line_at};
+ghost use Rattle.trm_cache.specs.Cache.{line_at};
 ghost use Rattle.trm_core.specs.declared.record.Scalars.{Scalars};
 ghost use Rattle.trm_core.specs.Record.{gathered};
 ghost use Rattle.trm_core.specs.Clock.{moved, written, writing, filling, missing, write_line};
 
-use trm_cache::inner::{bursts, cache_lines, switch_off};
+use trm_cache::record::Cache;
 use trm_clock_operands::inner::operands;
 use trm_clock_scalars::inner::scalars;
 use trm_core::record::{Running, Scalars};
@@ -40,97 +40,85 @@ fn moves(phase: u64, count: u64, refilled: u64, written: u64) -> Motion
 
 // After the write-back of line l: the next dirty line if the cache is turned off, else line l is emptied and refilled.
 fn written_back(
-    full: &mut [u8; 16],
-    dirty: &mut [u8; 16],
-    block: &mut [u16; 16],
-    words: &[u32; 128],
+    cache: &mut Cache,
     clears: bool,
     l: usize,
 ) -> Motion
     requires { l < 16 }
     ensures { ((c : Scalars) (s : List ℕ) → moved c result.running
-        (cache full.new dirty.new block.new words.now) s result.refilled result.written
+        cache.new s result.refilled result.written
         ≡ written paper_geometry clears l c
-        (cache full.old dirty.old block.old words.now) s)
+        cache.old s)
         × (result.refilled ≤ 1) × (result.written ≤ 1) }
 {
     if clears {
-        let d = switch_off::dirty_lines(full, dirty, block, words);
+        let d = cache.dirty_lines();
         if d.count == 0 {
             return moves(5, 0, 0, 1);
         }
         return moves(2, 0, 0, 1);
     }
-    cache_lines::empty_line(full, dirty, block, l);
+    cache.empty_line(l);
     moves(3, 0, 0, 1)
 }
 
 // The tenth and last clock of the write-back of line l.
 pub fn end_write_back(
-    full: &mut [u8; 16],
-    dirty: &mut [u8; 16],
-    block: &mut [u16; 16],
-    words: &[u32; 128],
+    cache: &mut Cache,
     store: &mut [u32],
     clears: bool,
     l: usize,
 ) -> Motion
     requires { (l < 16)
-        × ((line_at paper_geometry (cache full.old dirty.old block.old words.now) l).block * 8 + 8 ≤ length store.old) }
+        × ((line_at paper_geometry cache.old l).block * 8 + 8 ≤ length store.old) }
     ensures { ((c : Scalars) → moved c result.running
-        (cache full.new dirty.new block.new words.now) store.new result.refilled
+        cache.new store.new result.refilled
         result.written
         ≡ writing paper_geometry clears l 9 c
-        (cache full.old dirty.old block.old words.now) store.old)
+        cache.old store.old)
         × (result.refilled ≤ 1) × (result.written ≤ 1) }
 {
-    bursts::write_word(full, dirty, block, words, store, l, 9);
+    cache.write_word(store, l, 9);
     dirty[l] = 0;
-    written_back(full, dirty, block, words, clears, l)
+    written_back(cache, clears, l)
 }
 
 // The tenth and last clock of the refill of line l with block b.
 pub fn end_refill(
-    full: &mut [u8; 16],
-    dirty: &mut [u8; 16],
-    block: &mut [u16; 16],
-    words: &mut [u32; 128],
+    cache: &mut Cache,
     store: &[u32],
     b: u64,
     l: usize,
 ) -> Motion
     requires { (l < 16) × (b < 65536) × (b * 8 + 8 ≤ length store.now) }
     ensures { ((c : Scalars) → moved c result.running
-        (cache full.new dirty.new block.new words.new) store.now result.refilled
+        cache.new store.now result.refilled
         result.written
         ≡ filling paper_geometry b l 9 c
-        (cache full.old dirty.old block.old words.old) store.now)
+        cache.old store.now)
         × (result.refilled ≤ 1) × (result.written ≤ 1) }
 {
-    bursts::fill_word(full, dirty, block, words, store, l, b, 9);
-    cache_lines::fill_line(full, dirty, block, l, b);
+    cache.fill_word(store, l, b, 9);
+    cache.fill_line(l, b);
     moves(5, 0, 1, 0)
 }
 
 // The tag-check clock of a miss: a dirty line is written back first, any other line is emptied now.
 pub fn miss(
-    full: &mut [u8; 16],
-    dirty: &mut [u8; 16],
-    block: &mut [u16; 16],
-    words: &[u32; 128],
+    cache: &mut Cache,
     l: usize,
 ) -> Motion
     requires { l < 16 }
     ensures { ((c : Scalars) (s : List ℕ) → moved c result.running
-        (cache full.new dirty.new block.new words.now) s result.refilled result.written
+        cache.new s result.refilled result.written
         ≡ missing paper_geometry l c
-        (cache full.old dirty.old block.old words.now) s)
+        cache.old s)
         × (result.refilled ≤ 1) × (result.written ≤ 1) }
 {
-    if cache_lines::line_dirty(full, dirty, block, words, l) {
+    if cache.line_dirty(l) {
         return moves(2, 0, 0, 0);
     }
-    cache_lines::empty_line(full, dirty, block, l);
+    cache.empty_line(l);
     moves(3, 0, 0, 0)
 }
 
@@ -138,20 +126,17 @@ pub fn miss(
 pub fn line_of_burst(
     c: Scalars,
     regs: &[u32; 16],
-    full: &[u8; 16],
-    dirty: &[u8; 16],
-    block: &[u16; 16],
-    words: &[u32; 128],
+    cache: &Cache,
     w: u32,
     n: u64,
     clears: bool,
 ) -> usize
     requires { (store_length_ok n ≡ true) × (clears ≡ turns_cache_off w (gathered c regs.now)) }
     ensures { (result ≡ write_line paper_geometry w n (gathered c regs.now)
-        (cache full.now dirty.now block.now words.now)) × (result < 16) }
+        cache.now) × (result < 16) }
 {
     if clears {
-        let d = switch_off::dirty_lines(full, dirty, block, words);
+        let d = cache.dirty_lines();
         return d.first;
     }
     let a = operands::target_of(c, regs, w, n);

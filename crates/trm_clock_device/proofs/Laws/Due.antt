@@ -17,7 +17,7 @@ use Rattle.trm_reference.specs.Access.{is_load, is_store, is_access, is_memory, 
 use Rattle.trm_reference.specs.Access.{device_answer, answer_of}
 use Rattle.trm_reference.specs.Interrupt.{stalled, interrupt_chosen}
 use Rattle.trm_reference.specs.Trace.{Pins}
-use Rattle.trm_cache.specs.Cache.{Cache}
+use Rattle.trm_cache.specs.declared.record.Cache.{Cache}
 use Rattle.trm_core.specs.declared.record.Scalars.{Scalars}
 use Rattle.trm_core.specs.Record.{Lent, whole, gathered}
 use Rattle.trm_core.specs.Clock.{charge_here, is_last, finish, advance, quiet, worked, held_clock, clock_of}

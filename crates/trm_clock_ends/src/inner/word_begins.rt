@@ -3,11 +3,10 @@
 // The first clocks of the other operations are in trm_run_words, and for a listing in trm_list_rows.
 ghost use Rattle.std.specs.Prelude.{◌≡◌, length, ◌≤◌, ◌<◌};
 ghost use Rattle.trm_word.specs.Fields.{operation};
-ghost use Rattle.trm_cache.specs.Cache.{cache};
 ghost use Rattle.trm_clock_laws.specs.Good.{Good};
 ghost use Rattle.trm_clock_laws.specs.Made.{Works};
 
-use trm_cache::inner::{cache_lines, switch_off};
+use trm_cache::record::Cache;
 use trm_clock_bursts::inner::burst_clock;
 use trm_clock_execute::inner::execute;
 use trm_clock_laws::inner::outcome;
@@ -21,19 +20,16 @@ use trm_word::inner::address::Place;
 pub fn first_arithmetic(
     c: Scalars,
     regs: &mut [u32; 16],
-    full: &mut [u8; 16],
-    dirty: &mut [u8; 16],
-    block: &mut [u16; 16],
-    words: &mut [u32; 128],
+    cache: &mut Cache,
     store: &mut [u32],
     w: u32,
     input: u32,
 ) -> Clocked
-    requires { (Good w (length store.old) c regs.old (cache full.old dirty.old block.old words.old))
+    requires { (Good w (length store.old) c regs.old cache.old)
         × (c.running.phase ≡ 0) × (8 ≤ operation w) × (operation w < 11) }
     ensures { Works w c input
-        regs.old (cache full.old dirty.old block.old words.old) store.old
-        result regs.new (cache full.new dirty.new block.new words.new) store.new }
+        regs.old cache.old store.old
+        result regs.new cache.new store.new }
 {
     if w / 0x4000 % 16 == 10 {
         return outcome::carried(execute::rotate(c, regs, w));
@@ -45,19 +41,16 @@ pub fn first_arithmetic(
 pub fn first_control(
     c: Scalars,
     regs: &mut [u32; 16],
-    full: &mut [u8; 16],
-    dirty: &mut [u8; 16],
-    block: &mut [u16; 16],
-    words: &mut [u32; 128],
+    cache: &mut Cache,
     store: &mut [u32],
     w: u32,
     input: u32,
 ) -> Clocked
-    requires { (Good w (length store.old) c regs.old (cache full.old dirty.old block.old words.old))
+    requires { (Good w (length store.old) c regs.old cache.old)
         × (c.running.phase ≡ 0) × (operation w ≡ 11) }
     ensures { Works w c input
-        regs.old (cache full.old dirty.old block.old words.old) store.old
-        result regs.new (cache full.new dirty.new block.new words.new) store.new }
+        regs.old cache.old store.old
+        result regs.new cache.new store.new }
 {
     if w / 1024 % 2 == 1 {
         return outcome::enters(c, 5, 0);
@@ -65,9 +58,9 @@ pub fn first_control(
     if !operands::turns_cache_off(c, regs, w) {
         return outcome::carried(execute::set_status(c, regs, w));
     }
-    let d = switch_off::dirty_lines(full, dirty, block, words);
+    let d = cache.dirty_lines();
     if d.count == 0 {
-        switch_off::empty_all(full, dirty, block, words);
+        cache.empty_all();
         return outcome::carried(execute::set_status(c, regs, w));
     }
     outcome::enters(c, 2, 1) // the first wait of the first burst
@@ -77,19 +70,16 @@ pub fn first_control(
 pub fn first_store(
     c: Scalars,
     regs: &mut [u32; 16],
-    full: &mut [u8; 16],
-    dirty: &mut [u8; 16],
-    block: &mut [u16; 16],
-    words: &mut [u32; 128],
+    cache: &mut Cache,
     store: &mut [u32],
     w: u32,
     input: u32,
 ) -> Clocked
-    requires { (Good w (length store.old) c regs.old (cache full.old dirty.old block.old words.old))
+    requires { (Good w (length store.old) c regs.old cache.old)
         × (c.running.phase ≡ 0) × (operation w ≡ 13) }
     ensures { Works w c input
-        regs.old (cache full.old dirty.old block.old words.old) store.old
-        result regs.new (cache full.new dirty.new block.new words.new) store.new }
+        regs.old cache.old store.old
+        result regs.new cache.new store.new }
 {
     let place = operands::place_of_word(c, regs, w, store.len() as u64);
     match place {
@@ -109,13 +99,13 @@ pub fn first_store(
             }
             let b = a / 8;
             let l = (b % 16) as usize;
-            if !cache_lines::line_holds(full, dirty, block, words, l, b) {
-                let m = burst_clock::miss(full, dirty, block, words, l);
+            if !cache.line_holds(l, b) {
+                let m = burst_clock::miss(cache, l);
                 let running = m.running;
                 return outcome::goes_on(c, running, m.refilled, m.written);
             }
             let x = operands::stored_word(c, regs, w);
-            cache_lines::store_to(full, dirty, block, words, l, (a % 8) as usize, x);
+            cache.store_to(l, (a % 8) as usize, x);
             outcome::carried(execute::pass(c, regs, w))
         }
     }

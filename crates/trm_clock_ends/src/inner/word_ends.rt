@@ -3,11 +3,10 @@
 // Memory is read before it is written, and the answer is computed before the registers change.
 ghost use Rattle.std.specs.Prelude.{◌≡◌, length};
 ghost use Rattle.trm_word.specs.Fields.{operation};
-ghost use Rattle.trm_cache.specs.Cache.{cache};
 ghost use Rattle.trm_clock_laws.specs.Good.{Good};
 ghost use Rattle.trm_clock_laws.specs.Made.{WorksLast, Late};
 
-use trm_cache::inner::{cache_lines, switch_off};
+use trm_cache::record::Cache;
 use trm_clock_execute::inner::execute;
 use trm_clock_laws::inner::outcome;
 use trm_clock_laws::inner::outcome::Clocked;
@@ -19,24 +18,21 @@ use trm_word::inner::address::Place;
 fn last_control(
     c: Scalars,
     regs: &mut [u32; 16],
-    full: &mut [u8; 16],
-    dirty: &mut [u8; 16],
-    block: &mut [u16; 16],
-    words: &mut [u32; 128],
+    cache: &mut Cache,
     store: &mut [u32],
     w: u32,
     input: u32,
 ) -> Clocked
-    requires { (Good w (length store.old) c regs.old (cache full.old dirty.old block.old words.old))
+    requires { (Good w (length store.old) c regs.old cache.old)
         × (Late w (length store.old) c regs.old) × (operation w ≡ 11) }
     ensures { WorksLast w c input
-        regs.old (cache full.old dirty.old block.old words.old) store.old
-        result regs.new (cache full.new dirty.new block.new words.new) store.new }
+        regs.old cache.old store.old
+        result regs.new cache.new store.new }
 {
     if w / 1024 % 2 == 1 {
         return outcome::carried(execute::jump(c, regs, w));
     }
-    switch_off::empty_all(full, dirty, block, words);
+    cache.empty_all();
     outcome::carried(execute::set_status(c, regs, w))
 }
 
@@ -44,19 +40,16 @@ fn last_control(
 fn last_load(
     c: Scalars,
     regs: &mut [u32; 16],
-    full: &mut [u8; 16],
-    dirty: &mut [u8; 16],
-    block: &mut [u16; 16],
-    words: &mut [u32; 128],
+    cache: &mut Cache,
     store: &mut [u32],
     w: u32,
     input: u32,
 ) -> Clocked
-    requires { (Good w (length store.old) c regs.old (cache full.old dirty.old block.old words.old))
+    requires { (Good w (length store.old) c regs.old cache.old)
         × (Late w (length store.old) c regs.old) × (operation w ≡ 12) }
     ensures { WorksLast w c input
-        regs.old (cache full.old dirty.old block.old words.old) store.old
-        result regs.new (cache full.new dirty.new block.new words.new) store.new }
+        regs.old cache.old store.old
+        result regs.new cache.new store.new }
 {
     let place = operands::place_of_word(c, regs, w, store.len() as u64);
     match place {
@@ -70,7 +63,7 @@ fn last_load(
             }
         }
         Place::Memory(a) => {
-            let x = cache_lines::peek(full, dirty, block, words, store, a as usize);
+            let x = cache.peek(store, a as usize);
             outcome::carried(execute::load(c, regs, w, x))
         }
     }
@@ -80,23 +73,20 @@ fn last_load(
 fn last_store(
     c: Scalars,
     regs: &mut [u32; 16],
-    full: &mut [u8; 16],
-    dirty: &mut [u8; 16],
-    block: &mut [u16; 16],
-    words: &mut [u32; 128],
+    cache: &mut Cache,
     store: &mut [u32],
     w: u32,
     input: u32,
 ) -> Clocked
-    requires { (Good w (length store.old) c regs.old (cache full.old dirty.old block.old words.old))
+    requires { (Good w (length store.old) c regs.old cache.old)
         × (Late w (length store.old) c regs.old) × (operation w ≡ 13) }
     ensures { WorksLast w c input
-        regs.old (cache full.old dirty.old block.old words.old) store.old
-        result regs.new (cache full.new dirty.new block.new words.new) store.new }
+        regs.old cache.old store.old
+        result regs.new cache.new store.new }
 {
     let a = operands::target_of(c, regs, w, store.len() as u64) as usize;
     let x = operands::stored_word(c, regs, w);
-    cache_lines::store_to(full, dirty, block, words, a / 8 % 16, a % 8, x);
+    cache.store_to(a / 8 % 16, a % 8, x);
     outcome::carried(execute::pass(c, regs, w))
 }
 
@@ -104,25 +94,22 @@ fn last_store(
 pub fn last_clock(
     c: Scalars,
     regs: &mut [u32; 16],
-    full: &mut [u8; 16],
-    dirty: &mut [u8; 16],
-    block: &mut [u16; 16],
-    words: &mut [u32; 128],
+    cache: &mut Cache,
     store: &mut [u32],
     w: u32,
     input: u32,
 ) -> Clocked
-    requires { (Good w (length store.old) c regs.old (cache full.old dirty.old block.old words.old))
+    requires { (Good w (length store.old) c regs.old cache.old)
         × (Late w (length store.old) c regs.old) }
     ensures { WorksLast w c input
-        regs.old (cache full.old dirty.old block.old words.old) store.old
-        result regs.new (cache full.new dirty.new block.new words.new) store.new }
+        regs.old cache.old store.old
+        result regs.new cache.new store.new }
 {
     let op = w / 0x4000 % 16;
     match op {
-        11 => last_control(c, regs, full, dirty, block, words, store, w, input),
-        12 => last_load(c, regs, full, dirty, block, words, store, w, input),
-        13 => last_store(c, regs, full, dirty, block, words, store, w, input),
+        11 => last_control(c, regs, cache, store, w, input),
+        12 => last_load(c, regs, cache, store, w, input),
+        13 => last_store(c, regs, cache, store, w, input),
         14 => outcome::carried(execute::branch(c, regs, w)),
         _ => outcome::carried(execute::call(c, regs, w)),
     }

@@ -18,7 +18,8 @@ use Rattle.trm_reference.specs.Visible.{Visible, cache_on, word_at}
 use Rattle.trm_reference.specs.Access.{is_load, target_line}
 use Rattle.trm_reference.specs.Charge.{uncached_charge}
 use Rattle.trm_reference.proofs.Laws.Execute.{Narrow}
-use Rattle.trm_cache.specs.Cache.{Cache, line_at}
+use Rattle.trm_cache.specs.Cache.{line_at}
+use Rattle.trm_cache.specs.declared.record.Cache.{Cache}
 use Rattle.trm_core.specs.declared.record.Scalars.{Scalars}
 use Rattle.trm_core.specs.Record.{gathered, whole}
 use Rattle.trm_core.specs.Clock.{line_for}

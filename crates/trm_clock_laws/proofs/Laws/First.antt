@@ -15,7 +15,8 @@ use Rattle.trm_reference.specs.Visible.{Visible}
 use Rattle.trm_word.specs.declared.inner.address.Place.TheVariants.{Memory}
 use Rattle.trm_reference.specs.Access.{is_store, place_of_word, target_line}
 use Rattle.trm_reference.specs.Charge.{is_stepped, miss_charge}
-use Rattle.trm_cache.specs.Cache.{Cache, line_at, holds, count_dirty, first_dirty}
+use Rattle.trm_cache.specs.Cache.{line_at, holds, count_dirty, first_dirty}
+use Rattle.trm_cache.specs.declared.record.Cache.{Cache}
 use Rattle.trm_cache.proofs.Laws.Cache.{dirty-full}
 use Rattle.trm_cache.proofs.Laws.Dirty.{first-dirty}
 use Rattle.trm_core.specs.declared.record.Running.{Running}

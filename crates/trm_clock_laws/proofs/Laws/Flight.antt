@@ -15,7 +15,8 @@ use Rattle.trm_reference.specs.Visible.{Visible}
 use Rattle.trm_reference.specs.Access.{is_load, target_block, target_line}
 use Rattle.trm_reference.specs.Charge.{is_stepped, turns_cache_off, uncached_charge}
 use Rattle.trm_reference.specs.Execute.{operand_b}
-use Rattle.trm_cache.specs.Cache.{Cache, line_at, first_dirty}
+use Rattle.trm_cache.specs.Cache.{line_at, first_dirty}
+use Rattle.trm_cache.specs.declared.record.Cache.{Cache}
 use Rattle.trm_cache.proofs.Laws.Cache.{dirty-full}
 use Rattle.trm_cache.proofs.Laws.Dirty.{first-dirty}
 use Rattle.trm_core.specs.declared.record.Scalars.{Scalars}

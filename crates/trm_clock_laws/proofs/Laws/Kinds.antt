@@ -18,7 +18,8 @@ use Rattle.trm_reference.specs.Access.{is_load, is_store, is_access, is_memory, 
 use Rattle.trm_reference.specs.Access.{target_line}
 use Rattle.trm_reference.specs.Execute.{branch_taken}
 use Rattle.trm_reference.specs.Charge.{is_stepped, is_jump, takes_branch, turns_cache_off}
-use Rattle.trm_cache.specs.Cache.{Cache, line_at, holds}
+use Rattle.trm_cache.specs.Cache.{line_at, holds}
+use Rattle.trm_cache.specs.declared.record.Cache.{Cache}
 use Rattle.trm_core.specs.Clock.{line_for, hits}
 use Rattle.trm_core.specs.Rule.{all_below}
 use Rattle.trm_core.proofs.Laws.Fit.{below_all}

@@ -19,7 +19,8 @@ use Rattle.trm_reference.specs.Access.{target_block}
 use Rattle.trm_reference.specs.Access.{target_line, stored, loaded, Answer, answer_of}
 use Rattle.trm_reference.specs.Execute.{execute}
 use Rattle.trm_reference.specs.Charge.{through_cache, without_cache, turns_cache_off}
-use Rattle.trm_cache.specs.Cache.{Cache, view, stored_to, all_emptied}
+use Rattle.trm_cache.specs.Cache.{view, stored_to, all_emptied}
+use Rattle.trm_cache.specs.declared.record.Cache.{Cache}
 use Rattle.trm_core.specs.declared.record.Scalars.{Scalars}
 use Rattle.trm_core.specs.Record.{gathered, whole, ended}
 use Rattle.trm_core.specs.Clock.{carried, cache_after, store_after, finish}

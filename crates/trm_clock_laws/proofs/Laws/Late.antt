@@ -15,7 +15,8 @@ use Rattle.trm_reference.specs.Visible.{Visible, cache_on}
 use Rattle.trm_reference.specs.Access.{is_load, is_store, is_access, to_memory, target_line}
 use Rattle.trm_reference.specs.Execute.{branch_taken}
 use Rattle.trm_reference.specs.Charge.{is_jump, takes_branch, turns_cache_off}
-use Rattle.trm_cache.specs.Cache.{Cache, line_at, holds}
+use Rattle.trm_cache.specs.Cache.{line_at, holds}
+use Rattle.trm_cache.specs.declared.record.Cache.{Cache}
 use Rattle.trm_core.specs.declared.record.Scalars.{Scalars}
 use Rattle.trm_core.specs.Record.{gathered}
 use Rattle.trm_core.specs.Clock.{line_for, hits}

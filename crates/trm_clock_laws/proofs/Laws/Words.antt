@@ -22,7 +22,8 @@ use Rattle.trm_reference.specs.Access.{device_number, to_memory, to_device, targ
 use Rattle.trm_reference.specs.Access.{stored, loaded, silent, device_answer, answer_of}
 use Rattle.trm_reference.specs.Execute.{execute}
 use Rattle.trm_reference.specs.Charge.{through_cache, without_cache, turns_cache_off}
-use Rattle.trm_cache.specs.Cache.{Cache, view, all_emptied, write_word}
+use Rattle.trm_cache.specs.Cache.{view, all_emptied, write_word}
+use Rattle.trm_cache.specs.declared.record.Cache.{Cache}
 use Rattle.trm_core.specs.declared.record.Scalars.{Scalars}
 use Rattle.trm_core.specs.Record.{gathered, whole, ended, in_phase}
 use Rattle.trm_core.specs.Clock.{moved, cache_after, store_after, finish, writing}

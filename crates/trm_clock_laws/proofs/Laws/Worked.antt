@@ -7,7 +7,7 @@ use mathlib.Core.List.{List}
 use Rattle.trm_reference.specs.Geometry.{paper_geometry}
 use Rattle.trm_reference.specs.Access.{Answer}
 use Rattle.trm_reference.specs.Trace.{After}
-use Rattle.trm_cache.specs.Cache.{Cache}
+use Rattle.trm_cache.specs.declared.record.Cache.{Cache}
 use Rattle.trm_core.specs.declared.record.Running.{Running}
 use Rattle.trm_core.specs.declared.record.Scalars.{Scalars}
 use Rattle.trm_core.specs.Record.{Lent, gathered, whole, advanced}

@@ -4,11 +4,10 @@
 ghost use Rattle.std.specs.Prelude.{◌≡◌, ◌+◌, length};
 ghost use Rattle.trm_word.specs.Fields.{operation};
 ghost use Rattle.trm_word.specs.Charge.{charge_of};
-ghost use Rattle.trm_cache.specs.Cache.{cache};
 ghost use Rattle.trm_clock_laws.specs.Good.{Good};
 ghost use Rattle.trm_clock_laws.specs.Made.{Works};
 
-use trm_cache::inner::cache_lines;
+use trm_cache::record::Cache;
 use trm_clock_bursts::inner::burst_clock;
 use trm_clock_execute::inner::execute;
 use trm_clock_laws::inner::outcome;
@@ -20,19 +19,16 @@ use trm_core::record::Scalars;
 pub fn end_steps(
     c: Scalars,
     regs: &mut [u32; 16],
-    full: &mut [u8; 16],
-    dirty: &mut [u8; 16],
-    block: &mut [u16; 16],
-    words: &mut [u32; 128],
+    cache: &mut Cache,
     store: &mut [u32],
     w: u32,
     input: u32,
 ) -> Clocked
-    requires { (Good w (length store.old) c regs.old (cache full.old dirty.old block.old words.old))
+    requires { (Good w (length store.old) c regs.old cache.old)
         × (c.running.phase ≡ 1) × (c.running.count + 1 ≡ charge_of (operation w)) }
     ensures { Works w c input
-        regs.old (cache full.old dirty.old block.old words.old) store.old
-        result regs.new (cache full.new dirty.new block.new words.new) store.new }
+        regs.old cache.old store.old
+        result regs.new cache.new store.new }
 {
     outcome::carried(execute::long(c, regs, w))
 }
@@ -41,33 +37,27 @@ pub fn end_steps(
 pub fn end_write(
     c: Scalars,
     regs: &mut [u32; 16],
-    full: &mut [u8; 16],
-    dirty: &mut [u8; 16],
-    block: &mut [u16; 16],
-    words: &mut [u32; 128],
+    cache: &mut Cache,
     store: &mut [u32],
     w: u32,
     input: u32,
 ) -> Clocked
-    requires { (Good w (length store.old) c regs.old (cache full.old dirty.old block.old words.old))
+    requires { (Good w (length store.old) c regs.old cache.old)
         × (c.running.phase ≡ 2) × (c.running.count ≡ 9) }
     ensures { Works w c input
-        regs.old (cache full.old dirty.old block.old words.old) store.old
-        result regs.new (cache full.new dirty.new block.new words.new) store.new }
+        regs.old cache.old store.old
+        result regs.new cache.new store.new }
 {
     let clears = operands::turns_cache_off(c, regs, w);
     let l = burst_clock::line_of_burst(
         c,
         regs,
-        full,
-        dirty,
-        block,
-        words,
+        cache,
         w,
         store.len() as u64,
         clears,
     );
-    let m = burst_clock::end_write_back(full, dirty, block, words, store, clears, l);
+    let m = burst_clock::end_write_back(cache, store, clears, l);
     let running = m.running;
     outcome::goes_on(c, running, m.refilled, m.written)
 }
@@ -76,22 +66,19 @@ pub fn end_write(
 pub fn end_fill(
     c: Scalars,
     regs: &mut [u32; 16],
-    full: &mut [u8; 16],
-    dirty: &mut [u8; 16],
-    block: &mut [u16; 16],
-    words: &mut [u32; 128],
+    cache: &mut Cache,
     store: &mut [u32],
     w: u32,
     input: u32,
 ) -> Clocked
-    requires { (Good w (length store.old) c regs.old (cache full.old dirty.old block.old words.old))
+    requires { (Good w (length store.old) c regs.old cache.old)
         × (c.running.phase ≡ 3) × (c.running.count ≡ 9) }
     ensures { Works w c input
-        regs.old (cache full.old dirty.old block.old words.old) store.old
-        result regs.new (cache full.new dirty.new block.new words.new) store.new }
+        regs.old cache.old store.old
+        result regs.new cache.new store.new }
 {
     let b = operands::target_of(c, regs, w, store.len() as u64) / 8;
-    let m = burst_clock::end_refill(full, dirty, block, words, store, b, (b % 16) as usize);
+    let m = burst_clock::end_refill(cache, store, b, (b % 16) as usize);
     let running = m.running;
     outcome::goes_on(c, running, m.refilled, m.written)
 }
@@ -100,25 +87,22 @@ pub fn end_fill(
 pub fn end_wait(
     c: Scalars,
     regs: &mut [u32; 16],
-    full: &mut [u8; 16],
-    dirty: &mut [u8; 16],
-    block: &mut [u16; 16],
-    words: &mut [u32; 128],
+    cache: &mut Cache,
     store: &mut [u32],
     w: u32,
     input: u32,
 ) -> Clocked
-    requires { (Good w (length store.old) c regs.old (cache full.old dirty.old block.old words.old))
+    requires { (Good w (length store.old) c regs.old cache.old)
         × (c.running.phase ≡ 4) × (c.running.count + 1 ≡ charge_of (operation w) + 4) }
     ensures { Works w c input
-        regs.old (cache full.old dirty.old block.old words.old) store.old
-        result regs.new (cache full.new dirty.new block.new words.new) store.new }
+        regs.old cache.old store.old
+        result regs.new cache.new store.new }
 {
     let a = operands::target_of(c, regs, w, store.len() as u64) as usize;
     if operands::is_store(w) {
         store[a] = operands::stored_word(c, regs, w);
         return outcome::carried(execute::pass(c, regs, w));
     }
-    let x = cache_lines::peek(full, dirty, block, words, store, a);
+    let x = cache.peek(store, a);
     outcome::carried(execute::load(c, regs, w, x))
 }

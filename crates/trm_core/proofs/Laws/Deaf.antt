@@ -22,7 +22,8 @@ use Rattle.trm_reference.specs.Trace.{After}
 use Rattle.trm_core.specs.Record.{Machine}
 use Rattle.trm_core.specs.declared.record.Running.{Running}
 use Rattle.trm_core.specs.declared.record.Scalars.{Scalars}
-use Rattle.trm_cache.specs.Cache.{Cache, line_at, view, first_dirty}
+use Rattle.trm_cache.specs.Cache.{line_at, view, first_dirty}
+use Rattle.trm_cache.specs.declared.record.Cache.{Cache}
 use Rattle.trm_core.specs.Record.{Lent, gathered, visible_of, cache_of}
 use Rattle.trm_core.specs.Clock.{Moved, moved, hits, missing, first_clock, written, writing, filling, write_line, carried, is_last}
 use Rattle.trm_core.specs.Clock.{finish, cache_after, store_after, advance, quiet, worked, unheld, held_clock, clock_of}

@@ -18,7 +18,8 @@ use Rattle.trm_reference.specs.Access.{target_block, target_line}
 use Rattle.trm_reference.specs.Charge.{miss_charge}
 use Rattle.trm_core.specs.declared.record.Running.{Running}
 use Rattle.trm_core.specs.declared.record.Scalars.{Scalars}
-use Rattle.trm_cache.specs.Cache.{Cache, Line, line_at, emptied, cleaned, filled, write_word, fill_word, count_dirty, first_dirty}
+use Rattle.trm_cache.specs.Cache.{Line, line_at, emptied, cleaned, filled, write_word, fill_word, count_dirty, first_dirty}
+use Rattle.trm_cache.specs.declared.record.Cache.{Cache}
 use Rattle.trm_core.specs.Record.{in_phase}
 use Rattle.trm_core.specs.Clock.{Moved, moved, line_for, hits, written, writing, filling, missing}
 use Rattle.trm_core.specs.Claims.{left_of}

@@ -23,7 +23,8 @@ use Rattle.trm_reference.proofs.Laws.Execute.{Narrow, execute-narrow, execute-on
 use Rattle.trm_reference.proofs.Laws.Execute.{interrupted_regs}
 use Rattle.trm_core.specs.declared.record.Running.{Running}
 use Rattle.trm_core.specs.Record.{Machine}
-use Rattle.trm_cache.specs.Cache.{Cache, Line, line_at, view, stored_to, all_emptied}
+use Rattle.trm_cache.specs.Cache.{Line, line_at, view, stored_to, all_emptied}
+use Rattle.trm_cache.specs.declared.record.Cache.{Cache}
 use Rattle.trm_core.specs.Record.{Lent, visible_of, cache_of, counts_of}
 use Rattle.trm_core.specs.Clock.{Moved, moved, quiet, carried, line_for, hits, is_last, cache_after, store_after, finish, advance}
 use Rattle.trm_core.specs.Clock.{held_clock, clock_of}

@@ -17,7 +17,8 @@ use Rattle.trm_reference.specs.Access.{is_load, is_store, target_block, target_l
 use Rattle.trm_reference.specs.Charge.{is_jump, takes_branch, miss_charge, uncached_charge}
 use Rattle.trm_core.specs.declared.record.Running.{Running}
 use Rattle.trm_core.specs.declared.record.Scalars.{Scalars}
-use Rattle.trm_cache.specs.Cache.{Cache, count_dirty, first_dirty}
+use Rattle.trm_cache.specs.Cache.{count_dirty, first_dirty}
+use Rattle.trm_cache.specs.declared.record.Cache.{Cache}
 use Rattle.trm_core.specs.Record.{stepping, in_phase}
 use Rattle.trm_core.specs.Clock.{moved, line_for, hits, charge_here, is_last, writing, filling, first_clock, write_line, advance}
 use Rattle.trm_core.specs.Rule.{due_ok}

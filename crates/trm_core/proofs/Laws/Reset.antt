@@ -13,7 +13,8 @@ use native.Mathlib.Nat.{mul-le-mul_right, suc-mul}
 use Rattle.trm_laws.proofs.Tests.{bool_clash}
 use Rattle.trm_word.specs.Address.{store_length_ok}
 use Rattle.trm_reference.specs.Geometry.{Geometry, geometry_ok}
-use Rattle.trm_cache.specs.Cache.{Cache, cache, stride, line_at}
+use Rattle.trm_cache.specs.Cache.{cache, stride, line_at}
+use Rattle.trm_cache.specs.declared.record.Cache.{Cache}
 use Rattle.trm_cache.proofs.Laws.Lines.{Wide}
 use Rattle.trm_core.specs.Record.{reset_of, start}
 use Rattle.trm_core.specs.Refusals.{store_ok, reset_refusal}

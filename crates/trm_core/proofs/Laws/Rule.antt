@@ -19,7 +19,8 @@ use Rattle.trm_reference.proofs.Laws.Execute.{Narrow}
 use Rattle.trm_core.specs.declared.record.Counts.{Counts}
 use Rattle.trm_core.specs.declared.record.Running.{Running}
 use Rattle.trm_core.specs.Record.{Machine}
-use Rattle.trm_cache.specs.Cache.{Cache, Line, line_at, count_dirty}
+use Rattle.trm_cache.specs.Cache.{Line, line_at, count_dirty}
+use Rattle.trm_cache.specs.declared.record.Cache.{Cache}
 use Rattle.trm_core.specs.Record.{visible_of, cache_of, product_at, remainder_at, quotient_at}
 use Rattle.trm_core.specs.Clock.{line_for, hits}
 use Rattle.trm_core.specs.Rule.{widths_ok, counts_ok, registers_ok, arithmetic_ok, writeback_ok, refill_ok, wait_ok, due_ok, phase_ok}

@@ -20,7 +20,8 @@ use Rattle.trm_reference.specs.Charge.{miss_charge, uncached_charge}
 use Rattle.trm_core.specs.declared.record.Running.{Running}
 use Rattle.trm_core.specs.declared.record.Scalars.{Scalars}
 use Rattle.trm_core.specs.Record.{Machine}
-use Rattle.trm_cache.specs.Cache.{Cache, count_dirty}
+use Rattle.trm_cache.specs.Cache.{count_dirty}
+use Rattle.trm_cache.specs.declared.record.Cache.{Cache}
 use Rattle.trm_core.specs.Record.{visible_of, cache_of, stepping, in_phase}
 use Rattle.trm_core.specs.Clock.{moved, quiet, line_for, hits, charge_here, is_last, finish, missing, first_clock, advance}
 use Rattle.trm_core.specs.Clock.{worked, clock_of}

@@ -16,7 +16,8 @@ use Rattle.trm_reference.specs.Access.{target_block, target_line, Answer}
 use Rattle.trm_reference.specs.Interrupt.{stalled}
 use Rattle.trm_reference.specs.Charge.{turns_cache_off}
 use Rattle.trm_reference.specs.Trace.{Pins, After}
-use Rattle.trm_cache.specs.Cache.{Cache, count_dirty, cleaned}
+use Rattle.trm_cache.specs.Cache.{count_dirty, cleaned}
+use Rattle.trm_cache.specs.declared.record.Cache.{Cache}
 use Rattle.trm_core.specs.declared.record.Running.{Running}
 use Rattle.trm_core.specs.declared.record.Scalars.{Scalars}
 use Rattle.trm_core.specs.Record.{Machine, Lent, visible_of, cache_of}

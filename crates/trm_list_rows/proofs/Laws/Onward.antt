@@ -16,7 +16,7 @@ use Rattle.trm_reference.specs.Visible.{word_at}
 use Rattle.trm_reference.specs.Access.{silent}
 use Rattle.trm_reference.specs.Interrupt.{stalled}
 use Rattle.trm_reference.specs.Trace.{Pins}
-use Rattle.trm_cache.specs.Cache.{Cache}
+use Rattle.trm_cache.specs.declared.record.Cache.{Cache}
 use Rattle.trm_core.specs.declared.record.Scalars.{Scalars}
 use Rattle.trm_core.specs.Record.{Lent, whole}
 use Rattle.trm_core.specs.Clock.{clock_of}

@@ -4,11 +4,10 @@
 ghost use Rattle.std.specs.Prelude.{◌≡◌, ◌<◌, length};
 ghost use Rattle.trm_word.specs.Fields.{operation};
 ghost use Rattle.trm_word.specs.Charge.{charges};
-ghost use Rattle.trm_cache.specs.Cache.{cache};
 ghost use Rattle.trm_clock_laws.specs.Good.{Good};
 ghost use Rattle.trm_clock_laws.specs.Made.{Works};
 
-use trm_cache::inner::cache_lines;
+use trm_cache::record::Cache;
 use trm_clock_bursts::inner::burst_clock;
 use trm_clock_ends::inner::word_begins as begun;
 use trm_clock_execute::inner::execute;
@@ -23,19 +22,16 @@ use trm_word::inner::address::Place;
 fn first_load(
     c: Scalars,
     regs: &mut [u32; 16],
-    full: &mut [u8; 16],
-    dirty: &mut [u8; 16],
-    block: &mut [u16; 16],
-    words: &mut [u32; 128],
+    cache: &mut Cache,
     store: &mut [u32],
     w: u32,
     input: u32,
 ) -> Clocked
-    requires { (Good w (length store.old) c regs.old (cache full.old dirty.old block.old words.old))
+    requires { (Good w (length store.old) c regs.old cache.old)
         × (c.running.phase ≡ 0) × (operation w ≡ 12) }
     ensures { Works w c input
-        regs.old (cache full.old dirty.old block.old words.old) store.old
-        result regs.new (cache full.new dirty.new block.new words.new) store.new }
+        regs.old cache.old store.old
+        result regs.new cache.new store.new }
 {
     let place = operands::place_of_word(c, regs, w, store.len() as u64);
     match place {
@@ -46,8 +42,8 @@ fn first_load(
             }
             let b = a / 8;
             let l = (b % 16) as usize;
-            if !cache_lines::line_holds(full, dirty, block, words, l, b) {
-                let m = burst_clock::miss(full, dirty, block, words, l);
+            if !cache.line_holds(l, b) {
+                let m = burst_clock::miss(cache, l);
                 let running = m.running;
                 return outcome::goes_on(c, running, m.refilled, m.written);
             }
@@ -60,19 +56,16 @@ fn first_load(
 fn first_branch(
     c: Scalars,
     regs: &mut [u32; 16],
-    full: &mut [u8; 16],
-    dirty: &mut [u8; 16],
-    block: &mut [u16; 16],
-    words: &mut [u32; 128],
+    cache: &mut Cache,
     store: &mut [u32],
     w: u32,
     input: u32,
 ) -> Clocked
-    requires { (Good w (length store.old) c regs.old (cache full.old dirty.old block.old words.old))
+    requires { (Good w (length store.old) c regs.old cache.old)
         × (c.running.phase ≡ 0) × (operation w ≡ 14) }
     ensures { Works w c input
-        regs.old (cache full.old dirty.old block.old words.old) store.old
-        result regs.new (cache full.new dirty.new block.new words.new) store.new }
+        regs.old cache.old store.old
+        result regs.new cache.new store.new }
 {
     if operands::branch_taken(c, regs, w) {
         return outcome::enters(c, 5, 0);
@@ -84,20 +77,17 @@ fn first_branch(
 fn first_arithmetic(
     c: Scalars,
     regs: &mut [u32; 16],
-    full: &mut [u8; 16],
-    dirty: &mut [u8; 16],
-    block: &mut [u16; 16],
-    words: &mut [u32; 128],
+    cache: &mut Cache,
     store: &mut [u32],
     w: u32,
     input: u32,
     base: &[u64; 16],
 ) -> Clocked
-    requires { (Good w (length store.old) c regs.old (cache full.old dirty.old block.old words.old))
+    requires { (Good w (length store.old) c regs.old cache.old)
         × (c.running.phase ≡ 0) × (operation w < 11) × (base.now ≡ charges) }
     ensures { Works w c input
-        regs.old (cache full.old dirty.old block.old words.old) store.old
-        result regs.new (cache full.new dirty.new block.new words.new) store.new }
+        regs.old cache.old store.old
+        result regs.new cache.new store.new }
 {
     if base[(w / 0x4000 % 16) as usize] == 1 {
         return outcome::carried(execute::short(c, regs, w));
@@ -109,28 +99,25 @@ fn first_arithmetic(
 pub fn first_clock(
     c: Scalars,
     regs: &mut [u32; 16],
-    full: &mut [u8; 16],
-    dirty: &mut [u8; 16],
-    block: &mut [u16; 16],
-    words: &mut [u32; 128],
+    cache: &mut Cache,
     store: &mut [u32],
     w: u32,
     input: u32,
     base: &[u64; 16],
 ) -> Clocked
-    requires { (Good w (length store.old) c regs.old (cache full.old dirty.old block.old words.old))
+    requires { (Good w (length store.old) c regs.old cache.old)
         × (c.running.phase ≡ 0) × (base.now ≡ charges) }
     ensures { Works w c input
-        regs.old (cache full.old dirty.old block.old words.old) store.old
-        result regs.new (cache full.new dirty.new block.new words.new) store.new }
+        regs.old cache.old store.old
+        result regs.new cache.new store.new }
 {
     let op = w / 0x4000 % 16;
     match op {
-        0..=10 => first_arithmetic(c, regs, full, dirty, block, words, store, w, input, base),
-        11 => begun::first_control(c, regs, full, dirty, block, words, store, w, input),
-        12 => first_load(c, regs, full, dirty, block, words, store, w, input),
-        13 => begun::first_store(c, regs, full, dirty, block, words, store, w, input),
-        14 => first_branch(c, regs, full, dirty, block, words, store, w, input),
+        0..=10 => first_arithmetic(c, regs, cache, store, w, input, base),
+        11 => begun::first_control(c, regs, cache, store, w, input),
+        12 => first_load(c, regs, cache, store, w, input),
+        13 => begun::first_store(c, regs, cache, store, w, input),
+        14 => first_branch(c, regs, cache, store, w, input),
         _ => outcome::enters(c, 5, 0),
     }
 }

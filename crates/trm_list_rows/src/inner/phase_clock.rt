@@ -3,11 +3,11 @@
 // Each is one match on the phase. A run has both in one turn; a listing needs the last clock alone, as it may have a row (D-66).
 ghost use Rattle.std.specs.Prelude.{◌≡◌, ◌≢◌, ◌<◌, length};
 ghost use Rattle.trm_word.specs.Charge.{charges};
-ghost use Rattle.trm_cache.specs.Cache.{cache};
 ghost use Rattle.trm_clock_laws.specs.Good.{Good};
 ghost use Rattle.trm_clock_laws.specs.Made.{Works, Ends};
 ghost use Rattle.trm_run_phases.specs.Reached.{point, Under, Quietly};
 
+use trm_cache::record::Cache;
 use trm_clock_ends::inner::word_ends;
 use trm_clock_laws::inner::outcome::Clocked;
 use trm_clock_phases::inner::phase_ends;
@@ -19,31 +19,28 @@ use trm_run_phases::inner::{phase_clocks, step_clocks};
 pub fn flight_ahead(
     g: Going,
     regs: &[u32; 16],
-    full: &[u8; 16],
-    dirty: &[u8; 16],
-    block: &[u16; 16],
-    words: &mut [u32; 128],
+    cache: &mut Cache,
     store: &mut [u32],
     w: u32,
     pins: &[u8],
     base: &[u64; 16],
 ) -> Going
-    requires { Under pins.now w (point g regs.now (cache full.now dirty.now block.now words.old) store.old)
+    requires { Under pins.now w (point g regs.now cache.old store.old)
         × (base.now ≡ charges) × (g.scalars.running.phase ≢ 0) × (g.scalars.running.phase ≢ 5) }
     ensures { Quietly pins.now w
-        (point g regs.now (cache full.now dirty.now block.now words.old)
+        (point g regs.now cache.old
         store.old)
-        (point result regs.now (cache full.now dirty.now block.now words.new)
+        (point result regs.now cache.new
         store.new)
         × (result.scalars.pc ≡ g.scalars.pc) × (result.scalars.running.phase ≡ g.scalars.running.phase) × (result.finished ≡ g.finished)
         × (result.at < length pins.now → Ends w result.scalars.running) }
 {
     let phase = g.scalars.running.phase;
     match phase {
-        1 => step_clocks::steps_ahead(g, regs, full, dirty, block, words, store, w, pins, base),
-        2 => phase_clocks::write_ahead(g, regs, full, dirty, block, words, store, w, pins),
-        3 => phase_clocks::fill_ahead(g, regs, full, dirty, block, words, store, w, pins),
-        _ => phase_clocks::wait_ahead(g, regs, full, dirty, block, words, store, w, pins, base),
+        1 => step_clocks::steps_ahead(g, regs, cache, store, w, pins, base),
+        2 => phase_clocks::write_ahead(g, regs, cache, store, w, pins),
+        3 => phase_clocks::fill_ahead(g, regs, cache, store, w, pins),
+        _ => phase_clocks::wait_ahead(g, regs, cache, store, w, pins, base),
     }
 }
 
@@ -51,26 +48,23 @@ pub fn flight_ahead(
 pub fn flight_end(
     c: Scalars,
     regs: &mut [u32; 16],
-    full: &mut [u8; 16],
-    dirty: &mut [u8; 16],
-    block: &mut [u16; 16],
-    words: &mut [u32; 128],
+    cache: &mut Cache,
     store: &mut [u32],
     w: u32,
     input: u32,
 ) -> Clocked
-    requires { (Good w (length store.old) c regs.old (cache full.old dirty.old block.old words.old))
+    requires { (Good w (length store.old) c regs.old cache.old)
         × (c.running.phase ≢ 0) × Ends w c.running }
     ensures { Works w c input
-        regs.old (cache full.old dirty.old block.old words.old) store.old
-        result regs.new (cache full.new dirty.new block.new words.new) store.new }
+        regs.old cache.old store.old
+        result regs.new cache.new store.new }
 {
     let phase = c.running.phase;
     match phase {
-        1 => phase_ends::end_steps(c, regs, full, dirty, block, words, store, w, input),
-        2 => phase_ends::end_write(c, regs, full, dirty, block, words, store, w, input),
-        3 => phase_ends::end_fill(c, regs, full, dirty, block, words, store, w, input),
-        4 => phase_ends::end_wait(c, regs, full, dirty, block, words, store, w, input),
-        _ => word_ends::last_clock(c, regs, full, dirty, block, words, store, w, input),
+        1 => phase_ends::end_steps(c, regs, cache, store, w, input),
+        2 => phase_ends::end_write(c, regs, cache, store, w, input),
+        3 => phase_ends::end_fill(c, regs, cache, store, w, input),
+        4 => phase_ends::end_wait(c, regs, cache, store, w, input),
+        _ => word_ends::last_clock(c, regs, cache, store, w, input),
     }
 }

@@ -5,12 +5,12 @@ ghost use Rattle.std.specs.Prelude.{◌≡◌, ◌≢◌, false, cond, List, ℕ
 ghost use Rattle.trm_word.specs.Charge.{charges};
 ghost use Rattle.trm_reference.specs.Visible.{word_at};
 ghost use Rattle.trm_reference.specs.Interrupt.{stalled, interrupt_chosen};
-ghost use Rattle.trm_cache.specs.Cache.{cache};
 ghost use Rattle.trm_clock_laws.specs.Made.{Ends};
 ghost use Rattle.trm_list_rows.specs.Onward.{lent_of, Able, Onward};
 
 use crate::inner::listed::Listed;
 use crate::inner::{first_clock, listed, phase_clock};
+use trm_cache::record::Cache;
 use trm_clock_operands::inner::operands;
 use trm_clock_scalars::inner::interrupt;
 use trm_run_phases::inner::going::Going;
@@ -30,23 +30,20 @@ fn gone_ahead(
     l: Listed,
     program: &[u32],
     regs: &[u32; 16],
-    full: &[u8; 16],
-    dirty: &[u8; 16],
-    block: &[u16; 16],
-    words: &mut [u32; 128],
+    cache: &mut Cache,
     store: &mut [u32],
     pins: u8,
     input: u32,
     base: &[u64; 16],
     m: usize,
 ) -> Listed
-    requires { Able program.now (lent_of l regs.now (cache full.now dirty.now block.now words.old) store.old)
+    requires { Able program.now (lent_of l regs.now cache.old store.old)
         l.took l.left (record { line_byte = pins; input = input })
         × (stalled pins ≡ false) × (l.scalars.running.phase ≢ 0) × (base.now ≡ charges) × (m ≤ l.left) × (m ≤ 64) }
     ensures { ((b : List ℕ) → l.len ≤ length b → Onward program.now (record { line_byte = pins; input = input })
-        l (lent_of l regs.now (cache full.now dirty.now block.now words.old)
+        l (lent_of l regs.now cache.old
         store.old) b
-        result (lent_of result regs.now (cache full.now dirty.now block.now words.new)
+        result (lent_of result regs.now cache.new
         store.new) b)
         × (result.scalars.pc ≡ l.scalars.pc) × (result.scalars.running.phase ≢ 0) × (result.len ≡ l.len) × (result.left ≤ l.left)
         × (l.left ≤ result.left + m)
@@ -66,10 +63,7 @@ fn gone_ahead(
     let h = phase_clock::flight_ahead(
         g,
         regs,
-        full,
-        dirty,
-        block,
-        words,
+        cache,
         store,
         w,
         &same[..m],
@@ -89,36 +83,33 @@ fn goes_on(
     l: Listed,
     program: &[u32],
     regs: &mut [u32; 16],
-    full: &mut [u8; 16],
-    dirty: &mut [u8; 16],
-    block: &mut [u16; 16],
-    words: &mut [u32; 128],
+    cache: &mut Cache,
     store: &mut [u32],
     pins: u8,
     input: u32,
     base: &[u64; 16],
     buf: &mut [u8],
 ) -> Listed
-    requires { Able program.now (lent_of l regs.old (cache full.old dirty.old block.old words.old) store.old)
+    requires { Able program.now (lent_of l regs.old cache.old store.old)
         l.took l.left (record { line_byte = pins; input = input })
         × (0 < l.left) × (l.len + 32 ≤ length buf.old) × (stalled pins ≡ false)
         × (l.scalars.running.phase ≢ 0) × (base.now ≡ charges) }
     ensures { Onward program.now (record { line_byte = pins; input = input })
-        l (lent_of l regs.old (cache full.old dirty.old block.old words.old)
+        l (lent_of l regs.old cache.old
         store.old) buf.old
-        result (lent_of result regs.new (cache full.new dirty.new block.new words.new)
+        result (lent_of result regs.new cache.new
         store.new) buf.new × (result.left < l.left) }
 {
     let m = least(l.left, 64); // more clocks than a phase has
     let gone = gone_ahead(
-        l, program, regs, full, dirty, block, words, store, pins, input, base, m,
+        l, program, regs, cache, store, pins, input, base, m,
     );
     if l.left - gone.left == m {
         return gone; // the run ended first
     }
     let c = gone.scalars;
     let w = operands::word_at(program, c.pc);
-    let r = phase_clock::flight_end(c, regs, full, dirty, block, words, store, w, input);
+    let r = phase_clock::flight_end(c, regs, cache, store, w, input);
     listed::went(gone, r, w, buf)
 }
 
@@ -127,29 +118,26 @@ fn begins(
     l: Listed,
     program: &[u32],
     regs: &mut [u32; 16],
-    full: &mut [u8; 16],
-    dirty: &mut [u8; 16],
-    block: &mut [u16; 16],
-    words: &mut [u32; 128],
+    cache: &mut Cache,
     store: &mut [u32],
     pins: u8,
     input: u32,
     base: &[u64; 16],
     buf: &mut [u8],
 ) -> Listed
-    requires { Able program.now (lent_of l regs.old (cache full.old dirty.old block.old words.old) store.old)
+    requires { Able program.now (lent_of l regs.old cache.old store.old)
         l.took l.left (record { line_byte = pins; input = input })
         × (0 < l.left) × (l.len + 32 ≤ length buf.old) × (stalled pins ≡ false)
         × (l.scalars.running.phase ≡ 0) × (interrupt_chosen l.scalars.status pins ≡ 0) × (base.now ≡ charges) }
     ensures { Onward program.now (record { line_byte = pins; input = input })
-        l (lent_of l regs.old (cache full.old dirty.old block.old words.old)
+        l (lent_of l regs.old cache.old
         store.old) buf.old
-        result (lent_of result regs.new (cache full.new dirty.new block.new words.new)
+        result (lent_of result regs.new cache.new
         store.new) buf.new × (result.left < l.left) }
 {
     let w = operands::word_at(program, l.scalars.pc);
     let r = first_clock::first_clock(
-        l.scalars, regs, full, dirty, block, words, store, w, input, base,
+        l.scalars, regs, cache, store, w, input, base,
     );
     listed::went(l, r, w, buf)
 }
@@ -159,24 +147,21 @@ fn interrupts(
     l: Listed,
     program: &[u32],
     regs: &mut [u32; 16],
-    full: &[u8; 16],
-    dirty: &[u8; 16],
-    block: &[u16; 16],
-    words: &[u32; 128],
+    cache: &Cache,
     store: &[u32],
     pins: u8,
     input: u32,
     to: u64,
     buf: &mut [u8],
 ) -> Listed
-    requires { Able program.now (lent_of l regs.old (cache full.now dirty.now block.now words.now) store.now)
+    requires { Able program.now (lent_of l regs.old cache.now store.now)
         l.took l.left (record { line_byte = pins; input = input })
         × (0 < l.left) × (l.len + 32 ≤ length buf.old) × (stalled pins ≡ false)
         × (l.scalars.running.phase ≡ 0) × (to ≡ interrupt_chosen l.scalars.status pins) × (to ≢ 0) }
     ensures { Onward program.now (record { line_byte = pins; input = input })
-        l (lent_of l regs.old (cache full.now dirty.now block.now words.now)
+        l (lent_of l regs.old cache.now
         store.now) buf.old
-        result (lent_of result regs.new (cache full.now dirty.now block.now words.now)
+        result (lent_of result regs.new cache.now
         store.now) buf.new × (result.left < l.left) }
 {
     let c = interrupt::take_interrupt(l.scalars, regs, to);
@@ -188,38 +173,35 @@ fn one_turn(
     l: Listed,
     program: &[u32],
     regs: &mut [u32; 16],
-    full: &mut [u8; 16],
-    dirty: &mut [u8; 16],
-    block: &mut [u16; 16],
-    words: &mut [u32; 128],
+    cache: &mut Cache,
     store: &mut [u32],
     pins: u8,
     input: u32,
     base: &[u64; 16],
     buf: &mut [u8],
 ) -> Listed
-    requires { Able program.now (lent_of l regs.old (cache full.old dirty.old block.old words.old) store.old)
+    requires { Able program.now (lent_of l regs.old cache.old store.old)
         l.took l.left (record { line_byte = pins; input = input })
         × (0 < l.left) × (l.len + 32 ≤ length buf.old) × (stalled pins ≡ false) × (base.now ≡ charges) }
     ensures { Onward program.now (record { line_byte = pins; input = input })
-        l (lent_of l regs.old (cache full.old dirty.old block.old words.old)
+        l (lent_of l regs.old cache.old
         store.old) buf.old
-        result (lent_of result regs.new (cache full.new dirty.new block.new words.new)
+        result (lent_of result regs.new cache.new
         store.new) buf.new × (result.left < l.left) }
 {
     if l.scalars.running.phase != 0 {
         return goes_on(
-            l, program, regs, full, dirty, block, words, store, pins, input, base, buf,
+            l, program, regs, cache, store, pins, input, base, buf,
         );
     }
     let to = interrupt::interrupt_chosen(l.scalars.status, pins);
     if to != 0 {
         return interrupts(
-            l, program, regs, full, dirty, block, words, store, pins, input, to, buf,
+            l, program, regs, cache, store, pins, input, to, buf,
         );
     }
     begins(
-        l, program, regs, full, dirty, block, words, store, pins, input, base, buf,
+        l, program, regs, cache, store, pins, input, base, buf,
     )
 }
 
@@ -228,23 +210,20 @@ pub fn list_clocks(
     l: Listed,
     program: &[u32],
     regs: &mut [u32; 16],
-    full: &mut [u8; 16],
-    dirty: &mut [u8; 16],
-    block: &mut [u16; 16],
-    words: &mut [u32; 128],
+    cache: &mut Cache,
     store: &mut [u32],
     pins: u8,
     input: u32,
     base: &[u64; 16],
     buf: &mut [u8],
 ) -> Listed
-    requires { Able program.now (lent_of l regs.old (cache full.old dirty.old block.old words.old) store.old)
+    requires { Able program.now (lent_of l regs.old cache.old store.old)
         l.took l.left (record { line_byte = pins; input = input })
         × (l.len ≤ length buf.old) × (stalled pins ≡ false) × (base.now ≡ charges) }
     ensures { Onward program.now (record { line_byte = pins; input = input })
-        l (lent_of l regs.old (cache full.old dirty.old block.old words.old)
+        l (lent_of l regs.old cache.old
         store.old) buf.old
-        result (lent_of result regs.new (cache full.new dirty.new block.new words.new)
+        result (lent_of result regs.new cache.new
         store.new) buf.new
         × (result.left ≢ 0 → length buf.old < result.len + 32) }
 {
@@ -254,7 +233,7 @@ pub fn list_clocks(
             return g;
         }
         g = one_turn(
-            g, program, regs, full, dirty, block, words, store, pins, input, base, buf,
+            g, program, regs, cache, store, pins, input, base, buf,
         );
     }
     g

@@ -5,7 +5,7 @@ use mathlib.Core.Path.{◌≡◌, refl, sym, ap, ◌∙◌, subst}
 use mathlib.Core.List.{List, ◌++◌}
 use native.Mathlib.Omega.{arith}
 use lib.ListN.{length, take, drop, replicate}
-use Rattle.trm_cache.specs.Cache.{Cache}
+use Rattle.trm_cache.specs.declared.record.Cache.{Cache}
 use Rattle.trm_core.specs.Record.{Lent}
 use Rattle.trm_image.specs.Records.{begins}
 use Rattle.trm_image.specs.Refused.{count_at, line_byte_at, input_at}

@@ -3,12 +3,12 @@
 // All clocks of a run have the same line byte, so a run is held as a whole or not at all.
 ghost use Rattle.std.specs.Prelude.{◌≡◌, ◌≢◌, ◌+◌, ◌≤◌, ◌<◌, length};
 ghost use Rattle.trm_word.specs.Charge.{charges};
-ghost use Rattle.trm_cache.specs.Cache.{cache};
 ghost use Rattle.trm_image.specs.Records.{length_at};
 ghost use Rattle.trm_image.specs.Refused.{count_at, line_byte_at, input_at};
 ghost use Rattle.trm_list_rows.specs.Onward.{lent_of, Able, Onward};
 ghost use Rattle.trm_listing.specs.Rest.{held_by, Stands, Along};
 
+use trm_cache::record::Cache;
 use trm_clock_scalars::inner::interrupt;
 use trm_core::record::Scalars;
 use trm_image::inner::{bytes, payload_part};
@@ -42,23 +42,20 @@ fn run_clocks(
     l: Listed,
     program: &[u32],
     regs: &mut [u32; 16],
-    full: &mut [u8; 16],
-    dirty: &mut [u8; 16],
-    block: &mut [u16; 16],
-    words: &mut [u32; 128],
+    cache: &mut Cache,
     store: &mut [u32],
     pins: u8,
     input: u32,
     base: &[u64; 16],
     buf: &mut [u8],
 ) -> Listed
-    requires { Able program.now (lent_of l regs.old (cache full.old dirty.old block.old words.old) store.old)
+    requires { Able program.now (lent_of l regs.old cache.old store.old)
         l.took l.left (record { line_byte = pins; input = input })
         × (l.len ≤ length buf.old) × (base.now ≡ charges) }
     ensures { Onward program.now (record { line_byte = pins; input = input })
-        l (lent_of l regs.old (cache full.old dirty.old block.old words.old)
+        l (lent_of l regs.old cache.old
         store.old) buf.old
-        result (lent_of result regs.new (cache full.new dirty.new block.new words.new)
+        result (lent_of result regs.new cache.new
         store.new) buf.new
         × (result.left ≢ 0 → length buf.old < result.len + 32) }
 {
@@ -73,7 +70,7 @@ fn run_clocks(
         };
     }
     row_clocks::list_clocks(
-        l, program, regs, full, dirty, block, words, store, pins, input, base, buf,
+        l, program, regs, cache, store, pins, input, base, buf,
     )
 }
 
@@ -119,27 +116,24 @@ fn run_here(
     image: &[u8],
     program: &[u32],
     regs: &mut [u32; 16],
-    full: &mut [u8; 16],
-    dirty: &mut [u8; 16],
-    block: &mut [u16; 16],
-    words: &mut [u32; 128],
+    cache: &mut Cache,
     store: &mut [u32],
     base: &[u64; 16],
     buf: &mut [u8],
 ) -> Place
     requires { Stands image.now program.now q
-        (lent_of q.listed regs.old (cache full.old dirty.old block.old words.old) store.old) buf.old
+        (lent_of q.listed regs.old cache.old store.old) buf.old
         × (base.now ≡ charges) }
     ensures { Along image.now program.now q
-        (lent_of q.listed regs.old (cache full.old dirty.old block.old words.old)
+        (lent_of q.listed regs.old cache.old
         store.old) buf.old result
-        (lent_of result.listed regs.new (cache full.new dirty.new block.new words.new)
+        (lent_of result.listed regs.new cache.new
         store.new) buf.new
         × (result.listed.left ≢ 0 → length buf.old < result.listed.len + 32) × (result.at ≡ q.at) }
 {
     let l = q.listed;
     let listed = run_clocks(
-        l, program, regs, full, dirty, block, words, store, q.pins, q.input, base, buf,
+        l, program, regs, cache, store, q.pins, q.input, base, buf,
     );
     Place {
         listed: listed,
@@ -155,27 +149,24 @@ pub fn list_runs(
     image: &[u8],
     program: &[u32],
     regs: &mut [u32; 16],
-    full: &mut [u8; 16],
-    dirty: &mut [u8; 16],
-    block: &mut [u16; 16],
-    words: &mut [u32; 128],
+    cache: &mut Cache,
     store: &mut [u32],
     base: &[u64; 16],
     buf: &mut [u8],
 ) -> Place
     requires { Stands image.now program.now q
-        (lent_of q.listed regs.old (cache full.old dirty.old block.old words.old) store.old) buf.old
+        (lent_of q.listed regs.old cache.old store.old) buf.old
         × (base.now ≡ charges) }
     ensures { Along image.now program.now q
-        (lent_of q.listed regs.old (cache full.old dirty.old block.old words.old)
+        (lent_of q.listed regs.old cache.old
         store.old) buf.old result
-        (lent_of result.listed regs.new (cache full.new dirty.new block.new words.new)
+        (lent_of result.listed regs.new cache.new
         store.new) buf.new
         × (result.listed.left ≢ 0 → length buf.old < result.listed.len + 32)
         × (result.listed.left ≡ 0 → length image.now ≤ result.at) }
 {
     let mut p = run_here(
-        q, image, program, regs, full, dirty, block, words, store, base, buf,
+        q, image, program, regs, cache, store, base, buf,
     );
     while p.at < image.len() {
         if p.listed.left != 0 {
@@ -183,7 +174,7 @@ pub fn list_runs(
         }
         let next = next_run(p, image);
         p = run_here(
-            next, image, program, regs, full, dirty, block, words, store, base, buf,
+            next, image, program, regs, cache, store, base, buf,
         );
     }
     p

@@ -13,7 +13,7 @@ use Rattle.trm_reference.specs.Visible.{word_at}
 use Rattle.trm_reference.specs.Interrupt.{stalled}
 use Rattle.trm_reference.specs.Access.{Answer, is_load}
 use Rattle.trm_reference.specs.Trace.{After}
-use Rattle.trm_cache.specs.Cache.{Cache}
+use Rattle.trm_cache.specs.declared.record.Cache.{Cache}
 use Rattle.trm_core.specs.declared.record.Scalars.{Scalars}
 use Rattle.trm_core.specs.Record.{Lent, whole}
 use Rattle.trm_core.specs.Clock.{worked}

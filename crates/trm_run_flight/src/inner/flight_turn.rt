@@ -6,9 +6,9 @@ ghost use Rattle.trm_word.specs.Charge.{charges};
 ghost use Rattle.trm_reference.specs.Visible.{word_at};
 ghost use Rattle.trm_reference.specs.Access.{is_load};
 ghost use Rattle.trm_reference.specs.Interrupt.{stalled};
-ghost use Rattle.trm_cache.specs.Cache.{cache};
 ghost use Rattle.trm_run_phases.specs.Reached.{point, At, Turned, Did};
 
+use trm_cache::record::Cache;
 use trm_clock_ends::inner::word_ends;
 use trm_clock_operands::inner::operands;
 use trm_clock_phases::inner::phase_ends;
@@ -20,10 +20,7 @@ fn step_turn(
     g: Going,
     program: &[u32],
     regs: &mut [u32; 16],
-    full: &mut [u8; 16],
-    dirty: &mut [u8; 16],
-    block: &mut [u16; 16],
-    words: &mut [u32; 128],
+    cache: &mut Cache,
     store: &mut [u32],
     w: u32,
     pins: &[u8],
@@ -32,25 +29,25 @@ fn step_turn(
     outs: &mut [u32],
     base: &[u64; 16],
 ) -> Going
-    requires { At program.now pins.now inputs.now (point g regs.old (cache full.old dirty.old block.old words.old)
+    requires { At program.now pins.now inputs.now (point g regs.old cache.old
         store.old) bytes.old outs.old
         × (w ≡ word_at program.now g.scalars.pc) × (g.scalars.running.phase ≡ 1)
         × (g.at < length pins.now) × (stalled (get_or pins.now g.at 0) ≡ false) × (base.now ≡ charges) }
     ensures { Turned program.now pins.now inputs.now
-        (point g regs.old (cache full.old dirty.old block.old words.old)
+        (point g regs.old cache.old
         store.old)
         bytes.old outs.old
-        (point result regs.new (cache full.new dirty.new block.new words.new)
+        (point result regs.new cache.new
         store.new)
         bytes.new outs.new × (g.at < result.at) × (bytes.new ≡ bytes.old) }
 {
-    let h = step_clocks::steps_ahead(g, regs, full, dirty, block, words, store, w, pins, base);
+    let h = step_clocks::steps_ahead(g, regs, cache, store, w, pins, base);
     let at = h.at;
     if !going::due(pins, at) {
         return h;
     }
     let r = phase_ends::end_steps(
-        h.scalars, regs, full, dirty, block, words, store, w, inputs[at],
+        h.scalars, regs, cache, store, w, inputs[at],
     );
     going::went(h, r, bytes, outs)
 }
@@ -60,10 +57,7 @@ fn write_turn(
     g: Going,
     program: &[u32],
     regs: &mut [u32; 16],
-    full: &mut [u8; 16],
-    dirty: &mut [u8; 16],
-    block: &mut [u16; 16],
-    words: &mut [u32; 128],
+    cache: &mut Cache,
     store: &mut [u32],
     w: u32,
     pins: &[u8],
@@ -71,25 +65,25 @@ fn write_turn(
     bytes: &mut [u8],
     outs: &mut [u32],
 ) -> Going
-    requires { At program.now pins.now inputs.now (point g regs.old (cache full.old dirty.old block.old words.old)
+    requires { At program.now pins.now inputs.now (point g regs.old cache.old
         store.old) bytes.old outs.old
         × (w ≡ word_at program.now g.scalars.pc) × (g.scalars.running.phase ≡ 2)
         × (g.at < length pins.now) × (stalled (get_or pins.now g.at 0) ≡ false) }
     ensures { Turned program.now pins.now inputs.now
-        (point g regs.old (cache full.old dirty.old block.old words.old)
+        (point g regs.old cache.old
         store.old)
         bytes.old outs.old
-        (point result regs.new (cache full.new dirty.new block.new words.new)
+        (point result regs.new cache.new
         store.new)
         bytes.new outs.new × (g.at < result.at) × (bytes.new ≡ bytes.old) }
 {
-    let h = phase_clocks::write_ahead(g, regs, full, dirty, block, words, store, w, pins);
+    let h = phase_clocks::write_ahead(g, regs, cache, store, w, pins);
     let at = h.at;
     if !going::due(pins, at) {
         return h;
     }
     let r = phase_ends::end_write(
-        h.scalars, regs, full, dirty, block, words, store, w, inputs[at],
+        h.scalars, regs, cache, store, w, inputs[at],
     );
     going::went(h, r, bytes, outs)
 }
@@ -99,10 +93,7 @@ fn fill_turn(
     g: Going,
     program: &[u32],
     regs: &mut [u32; 16],
-    full: &mut [u8; 16],
-    dirty: &mut [u8; 16],
-    block: &mut [u16; 16],
-    words: &mut [u32; 128],
+    cache: &mut Cache,
     store: &mut [u32],
     w: u32,
     pins: &[u8],
@@ -110,25 +101,25 @@ fn fill_turn(
     bytes: &mut [u8],
     outs: &mut [u32],
 ) -> Going
-    requires { At program.now pins.now inputs.now (point g regs.old (cache full.old dirty.old block.old words.old)
+    requires { At program.now pins.now inputs.now (point g regs.old cache.old
         store.old) bytes.old outs.old
         × (w ≡ word_at program.now g.scalars.pc) × (g.scalars.running.phase ≡ 3)
         × (g.at < length pins.now) × (stalled (get_or pins.now g.at 0) ≡ false) }
     ensures { Turned program.now pins.now inputs.now
-        (point g regs.old (cache full.old dirty.old block.old words.old)
+        (point g regs.old cache.old
         store.old)
         bytes.old outs.old
-        (point result regs.new (cache full.new dirty.new block.new words.new)
+        (point result regs.new cache.new
         store.new)
         bytes.new outs.new × (g.at < result.at) × (bytes.new ≡ bytes.old) }
 {
-    let h = phase_clocks::fill_ahead(g, regs, full, dirty, block, words, store, w, pins);
+    let h = phase_clocks::fill_ahead(g, regs, cache, store, w, pins);
     let at = h.at;
     if !going::due(pins, at) {
         return h;
     }
     let r = phase_ends::end_fill(
-        h.scalars, regs, full, dirty, block, words, store, w, inputs[at],
+        h.scalars, regs, cache, store, w, inputs[at],
     );
     going::went(h, r, bytes, outs)
 }
@@ -138,10 +129,7 @@ fn wait_turn(
     g: Going,
     program: &[u32],
     regs: &mut [u32; 16],
-    full: &mut [u8; 16],
-    dirty: &mut [u8; 16],
-    block: &mut [u16; 16],
-    words: &mut [u32; 128],
+    cache: &mut Cache,
     store: &mut [u32],
     w: u32,
     pins: &[u8],
@@ -150,25 +138,25 @@ fn wait_turn(
     outs: &mut [u32],
     base: &[u64; 16],
 ) -> Going
-    requires { At program.now pins.now inputs.now (point g regs.old (cache full.old dirty.old block.old words.old)
+    requires { At program.now pins.now inputs.now (point g regs.old cache.old
         store.old) bytes.old outs.old
         × (w ≡ word_at program.now g.scalars.pc) × (g.scalars.running.phase ≡ 4)
         × (g.at < length pins.now) × (stalled (get_or pins.now g.at 0) ≡ false) × (base.now ≡ charges) }
     ensures { Turned program.now pins.now inputs.now
-        (point g regs.old (cache full.old dirty.old block.old words.old)
+        (point g regs.old cache.old
         store.old)
         bytes.old outs.old
-        (point result regs.new (cache full.new dirty.new block.new words.new)
+        (point result regs.new cache.new
         store.new)
         bytes.new outs.new × (g.at < result.at) × (bytes.new ≡ bytes.old) }
 {
-    let h = phase_clocks::wait_ahead(g, regs, full, dirty, block, words, store, w, pins, base);
+    let h = phase_clocks::wait_ahead(g, regs, cache, store, w, pins, base);
     let at = h.at;
     if !going::due(pins, at) {
         return h;
     }
     let r = phase_ends::end_wait(
-        h.scalars, regs, full, dirty, block, words, store, w, inputs[at],
+        h.scalars, regs, cache, store, w, inputs[at],
     );
     going::went(h, r, bytes, outs)
 }
@@ -188,10 +176,7 @@ fn last_turn(
     g: Going,
     program: &[u32],
     regs: &mut [u32; 16],
-    full: &mut [u8; 16],
-    dirty: &mut [u8; 16],
-    block: &mut [u16; 16],
-    words: &mut [u32; 128],
+    cache: &mut Cache,
     store: &mut [u32],
     w: u32,
     pins: &[u8],
@@ -200,17 +185,17 @@ fn last_turn(
     outs: &mut [u32],
     stops: bool,
 ) -> Going
-    requires { At program.now pins.now inputs.now (point g regs.old (cache full.old dirty.old block.old words.old)
+    requires { At program.now pins.now inputs.now (point g regs.old cache.old
         store.old) bytes.old outs.old
         × (w ≡ word_at program.now g.scalars.pc)
         × (g.at < length pins.now) × (stalled (get_or pins.now g.at 0) ≡ false)
         × (g.scalars.running.phase ≢ 0) × (g.scalars.running.phase ≢ 1) × (g.scalars.running.phase ≢ 2)
         × (g.scalars.running.phase ≢ 3) × (g.scalars.running.phase ≢ 4) }
     ensures { Turned program.now pins.now inputs.now
-        (point g regs.old (cache full.old dirty.old block.old words.old)
+        (point g regs.old cache.old
         store.old)
         bytes.old outs.old
-        (point result regs.new (cache full.new dirty.new block.new words.new)
+        (point result regs.new cache.new
         store.new)
         bytes.new outs.new × Did stops g.at result.at bytes.old bytes.new }
 {
@@ -219,7 +204,7 @@ fn last_turn(
     }
     let at = g.at;
     let r = word_ends::last_clock(
-        g.scalars, regs, full, dirty, block, words, store, w, inputs[at],
+        g.scalars, regs, cache, store, w, inputs[at],
     );
     going::went(g, r, bytes, outs)
 }
@@ -229,10 +214,7 @@ pub fn flight_turn(
     g: Going,
     program: &[u32],
     regs: &mut [u32; 16],
-    full: &mut [u8; 16],
-    dirty: &mut [u8; 16],
-    block: &mut [u16; 16],
-    words: &mut [u32; 128],
+    cache: &mut Cache,
     store: &mut [u32],
     w: u32,
     pins: &[u8],
@@ -242,34 +224,34 @@ pub fn flight_turn(
     base: &[u64; 16],
     stops: bool,
 ) -> Going
-    requires { At program.now pins.now inputs.now (point g regs.old (cache full.old dirty.old block.old words.old)
+    requires { At program.now pins.now inputs.now (point g regs.old cache.old
         store.old) bytes.old outs.old
         × (w ≡ word_at program.now g.scalars.pc) × (base.now ≡ charges)
         × (g.at < length pins.now) × (stalled (get_or pins.now g.at 0) ≡ false) × (g.scalars.running.phase ≢ 0) }
     ensures { Turned program.now pins.now inputs.now
-        (point g regs.old (cache full.old dirty.old block.old words.old)
+        (point g regs.old cache.old
         store.old)
         bytes.old outs.old
-        (point result regs.new (cache full.new dirty.new block.new words.new)
+        (point result regs.new cache.new
         store.new)
         bytes.new outs.new × Did stops g.at result.at bytes.old bytes.new }
 {
     let phase = g.scalars.running.phase;
     match phase {
         1 => step_turn(
-            g, program, regs, full, dirty, block, words, store, w, pins, inputs, bytes, outs, base,
+            g, program, regs, cache, store, w, pins, inputs, bytes, outs, base,
         ),
         2 => write_turn(
-            g, program, regs, full, dirty, block, words, store, w, pins, inputs, bytes, outs,
+            g, program, regs, cache, store, w, pins, inputs, bytes, outs,
         ),
         3 => fill_turn(
-            g, program, regs, full, dirty, block, words, store, w, pins, inputs, bytes, outs,
+            g, program, regs, cache, store, w, pins, inputs, bytes, outs,
         ),
         4 => wait_turn(
-            g, program, regs, full, dirty, block, words, store, w, pins, inputs, bytes, outs, base,
+            g, program, regs, cache, store, w, pins, inputs, bytes, outs, base,
         ),
         _ => last_turn(
-            g, program, regs, full, dirty, block, words, store, w, pins, inputs, bytes, outs, stops,
+            g, program, regs, cache, store, w, pins, inputs, bytes, outs, stops,
         ),
     }
 }

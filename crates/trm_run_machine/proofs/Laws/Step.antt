@@ -17,7 +17,7 @@ use Rattle.trm_reference.specs.Access.{is_load, silent}
 use Rattle.trm_reference.specs.Charge.{is_stepped}
 use Rattle.trm_reference.specs.Interrupt.{stalled, interrupt_chosen}
 use Rattle.trm_reference.specs.Trace.{Pins}
-use Rattle.trm_cache.specs.Cache.{Cache}
+use Rattle.trm_cache.specs.declared.record.Cache.{Cache}
 use Rattle.trm_core.specs.declared.record.Scalars.{Scalars}
 use Rattle.trm_core.specs.Record.{gathered, whole, stepping, advanced}
 use Rattle.trm_core.specs.Clock.{clock_of}

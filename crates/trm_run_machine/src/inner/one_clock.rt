@@ -3,7 +3,6 @@
 // The scalars go by value; no array is copied. The caller guarantees that the arrays have the lengths of their types (D-31).
 ghost use Rattle.std.specs.Prelude.{◌≡◌};
 ghost use Rattle.trm_reference.specs.Geometry.{paper_geometry};
-ghost use Rattle.trm_cache.specs.Cache.{cache};
 ghost use Rattle.trm_core.specs.Claims.{Shaped};
 ghost use Rattle.trm_core.specs.Clock.{clock_of};
 ghost use Rattle.trm_core.specs.Refusals.{clock_refusal};
@@ -11,6 +10,7 @@ ghost use Rattle.trm_clock_laws.specs.Made.{made};
 ghost use Rattle.trm_run_machine.specs.Machine.{record_of, parts};
 
 use crate::inner::turns;
+use trm_cache::record::Cache;
 use trm_clock_laws::inner::outcome::Clocked;
 use trm_core::record::Scalars;
 use trm_run_phases::inner::going::Going;
@@ -19,22 +19,18 @@ pub fn one_clock(
     c: Scalars,
     program: &[u32],
     regs: &mut [u32; 16],
-    full: &mut [u8; 16],
-    dirty: &mut [u8; 16],
-    block: &mut [u16; 16],
-    words: &mut [u32; 128],
+    cache: &mut Cache,
     store: &mut [u32],
     pins: u8,
     input: u32,
 ) -> Clocked
     requires { (clock_refusal paper_geometry program.now
-        (record_of (parts c regs.old full.old dirty.old block.old words.old)) store.old pins ≡ 0)
-        × Shaped paper_geometry (record_of (parts c regs.old full.old dirty.old block.old words.old)) }
-    ensures { made result regs.new (cache full.new dirty.new block.new words.new)
+        (record_of (parts c regs.old cache.old)) store.old pins ≡ 0)
+        × Shaped paper_geometry (record_of (parts c regs.old cache.old)) }
+    ensures { made result regs.new cache.new
         store.new
         ≡ clock_of paper_geometry program.now (record {
-          machine = record_of (parts c regs.old full.old dirty.old block.old
-              words.old);
+          machine = record_of (parts c regs.old cache.old);
           store = store.old;
         }) (record { line_byte = pins; input = input }) }
 {
@@ -48,7 +44,7 @@ pub fn one_clock(
         finished: 0,
     };
     let g = turns::all_turns(
-        began, program, regs, full, dirty, block, words, store, &alone, &inputs, &mut bytes,
+        began, program, regs, cache, store, &alone, &inputs, &mut bytes,
         &mut outs, false,
     );
     let after = g.scalars;

@@ -6,6 +6,7 @@ ghost use Rattle.trm_run_machine.specs.Machine.{lent, parts};
 ghost use Rattle.trm_run_machine.specs.Quiet.{Silent, Able};
 
 use crate::inner::turns;
+use trm_cache::record::Cache;
 use trm_core::record::Scalars;
 use trm_run_phases::inner::going::Going;
 
@@ -14,18 +15,15 @@ pub fn quiet_clocks(
     c: Scalars,
     program: &[u32],
     regs: &mut [u32; 16],
-    full: &mut [u8; 16],
-    dirty: &mut [u8; 16],
-    block: &mut [u16; 16],
-    words: &mut [u32; 128],
+    cache: &mut Cache,
     store: &mut [u32],
     pins: &[u8],
 ) -> Going
-    requires { Able program.now (lent (parts c regs.old full.old dirty.old block.old words.old) store.old) pins.now }
+    requires { Able program.now (lent (parts c regs.old cache.old) store.old) pins.now }
     ensures { (result.at ≤ length pins.now) × Silent program.now (take result.at pins.now)
-        (lent (parts c regs.old full.old dirty.old block.old words.old)
+        (lent (parts c regs.old cache.old)
         store.old)
-        (lent (parts result.scalars regs.new full.new dirty.new block.new words.new)
+        (lent (parts result.scalars regs.new cache.new)
         store.new) result.finished }
 {
     let n = pins.len();
@@ -41,10 +39,7 @@ pub fn quiet_clocks(
         began,
         program,
         regs,
-        full,
-        dirty,
-        block,
-        words,
+        cache,
         store,
         pins,
         &inputs[..n],

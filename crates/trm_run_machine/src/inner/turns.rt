@@ -3,9 +3,9 @@
 // an instruction".
 ghost use Rattle.std.specs.Prelude.{◌≡◌, true, false, ◌&&◌, ◌<◌, ◌≤◌, length, eqb};
 ghost use Rattle.trm_word.specs.Charge.{charges};
-ghost use Rattle.trm_cache.specs.Cache.{cache};
 ghost use Rattle.trm_run_phases.specs.Reached.{point, At, Turned, Did};
 
+use trm_cache::record::Cache;
 use trm_clock_operands::inner::operands;
 use trm_clock_scalars::inner::interrupt;
 use trm_run_flight::inner::flight_turn;
@@ -18,10 +18,7 @@ pub fn turn(
     g: Going,
     program: &[u32],
     regs: &mut [u32; 16],
-    full: &mut [u8; 16],
-    dirty: &mut [u8; 16],
-    block: &mut [u16; 16],
-    words: &mut [u32; 128],
+    cache: &mut Cache,
     store: &mut [u32],
     pins: &[u8],
     inputs: &[u32],
@@ -30,26 +27,26 @@ pub fn turn(
     base: &[u64; 16],
     stops: bool,
 ) -> Going
-    requires { At program.now pins.now inputs.now (point g regs.old (cache full.old dirty.old block.old words.old)
+    requires { At program.now pins.now inputs.now (point g regs.old cache.old
         store.old) bytes.old outs.old × (base.now ≡ charges) × (g.at < length pins.now) }
     ensures { Turned program.now pins.now inputs.now
-        (point g regs.old (cache full.old dirty.old block.old words.old)
+        (point g regs.old cache.old
         store.old)
         bytes.old outs.old
-        (point result regs.new (cache full.new dirty.new block.new words.new)
+        (point result regs.new cache.new
         store.new)
         bytes.new outs.new × Did stops g.at result.at bytes.old bytes.new }
 {
     let at = g.at;
     let first = pins[at];
     if interrupt::is_stalled(first) {
-        return phase_clocks::held_ahead(g, regs, full, dirty, block, words, store, pins);
+        return phase_clocks::held_ahead(g, regs, cache, store, pins);
     }
     let c = g.scalars;
     if c.running.phase != 0 {
         let w = operands::word_at(program, c.pc);
         return flight_turn::flight_turn(
-            g, program, regs, full, dirty, block, words, store, w, pins, inputs, bytes, outs, base,
+            g, program, regs, cache, store, w, pins, inputs, bytes, outs, base,
             stops,
         );
     }
@@ -58,7 +55,7 @@ pub fn turn(
         return going::quietly(g, interrupt::take_interrupt(c, regs, to), 0);
     }
     words_turn::ready_turn(
-        g, program, regs, full, dirty, block, words, store, pins, inputs, bytes, outs, stops,
+        g, program, regs, cache, store, pins, inputs, bytes, outs, stops,
     )
 }
 
@@ -78,10 +75,7 @@ pub fn all_turns(
     mut g: Going,
     program: &[u32],
     regs: &mut [u32; 16],
-    full: &mut [u8; 16],
-    dirty: &mut [u8; 16],
-    block: &mut [u16; 16],
-    words: &mut [u32; 128],
+    cache: &mut Cache,
     store: &mut [u32],
     pins: &[u8],
     inputs: &[u32],
@@ -89,13 +83,13 @@ pub fn all_turns(
     outs: &mut [u32],
     stops: bool,
 ) -> Going
-    requires { At program.now pins.now inputs.now (point g regs.old (cache full.old dirty.old block.old words.old)
+    requires { At program.now pins.now inputs.now (point g regs.old cache.old
         store.old) bytes.old outs.old }
     ensures { Turned program.now pins.now inputs.now
-        (point g regs.old (cache full.old dirty.old block.old words.old)
+        (point g regs.old cache.old
         store.old)
         bytes.old outs.old
-        (point result regs.new (cache full.new dirty.new block.new words.new)
+        (point result regs.new cache.new
         store.new)
         bytes.new outs.new × (stops ≡ false → length pins.now ≤ result.at) × (g.at ≤ result.at)
         × (stops ≡ true → bytes.new ≡ bytes.old) }
@@ -104,7 +98,7 @@ pub fn all_turns(
     while g.at < pins.len() {
         let before = g.at;
         g = turn(
-            g, program, regs, full, dirty, block, words, store, pins, inputs, bytes, outs, &base,
+            g, program, regs, cache, store, pins, inputs, bytes, outs, &base,
             stops,
         );
         if no_progress(stops, before, g.at) {

@@ -16,7 +16,8 @@ use Rattle.trm_reference.specs.Access.{Answer, silent, device_answer, answer_of}
 use Rattle.trm_reference.specs.Interrupt.{stalled, interrupt_chosen}
 use Rattle.trm_reference.specs.Charge.{is_stepped, through_cache, without_cache, turns_cache_off}
 use Rattle.trm_reference.specs.Trace.{Pins, After}
-use Rattle.trm_cache.specs.Cache.{Cache, line_at, cleaned, first_dirty, write_word}
+use Rattle.trm_cache.specs.Cache.{line_at, cleaned, first_dirty, write_word}
+use Rattle.trm_cache.specs.declared.record.Cache.{Cache}
 use Rattle.trm_core.specs.declared.record.Scalars.{Scalars}
 use Rattle.trm_core.specs.Record.{Machine, Lent, visible_of, cache_of}
 use Rattle.trm_core.specs.Clock.{Moved, hits, is_last, finish, written, writing}

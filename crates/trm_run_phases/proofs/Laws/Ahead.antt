@@ -20,7 +20,8 @@ use Rattle.trm_reference.specs.Visible.{Visible, word_at}
 use Rattle.trm_reference.specs.Access.{target, target_block}
 use Rattle.trm_reference.specs.Charge.{turns_cache_off, uncached_charge}
 use Rattle.trm_reference.specs.Interrupt.{stalled}
-use Rattle.trm_cache.specs.Cache.{Cache, line_at, write_word, fill_word}
+use Rattle.trm_cache.specs.Cache.{line_at, write_word, fill_word}
+use Rattle.trm_cache.specs.declared.record.Cache.{Cache}
 use Rattle.trm_core.specs.declared.record.Running.{Running}
 use Rattle.trm_core.specs.declared.record.Scalars.{Scalars}
 use Rattle.trm_core.specs.Record.{gathered, stepping, in_phase, advanced, waited}

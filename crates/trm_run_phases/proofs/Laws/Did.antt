@@ -18,7 +18,7 @@ use Rattle.trm_reference.specs.Geometry.{paper_geometry}
 use Rattle.trm_reference.specs.Visible.{Visible}
 use Rattle.trm_reference.specs.Access.{is_load, is_store, is_access, is_memory, to_device, to_memory, place_of_word, Answer, answer_of}
 use Rattle.trm_reference.specs.Trace.{After}
-use Rattle.trm_cache.specs.Cache.{Cache}
+use Rattle.trm_cache.specs.declared.record.Cache.{Cache}
 use Rattle.trm_core.specs.declared.record.Scalars.{Scalars}
 use Rattle.trm_core.specs.Record.{Lent, gathered, whole}
 use Rattle.trm_core.specs.Clock.{is_last, finish, advance, quiet, worked}

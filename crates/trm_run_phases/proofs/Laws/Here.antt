@@ -13,7 +13,7 @@ use Rattle.trm_reference.specs.Visible.{word_at}
 use Rattle.trm_reference.specs.Access.{Answer, silent}
 use Rattle.trm_reference.specs.Interrupt.{stalled, interrupt_chosen, interrupted}
 use Rattle.trm_reference.specs.Trace.{Pins, After}
-use Rattle.trm_cache.specs.Cache.{Cache}
+use Rattle.trm_cache.specs.declared.record.Cache.{Cache}
 use Rattle.trm_core.specs.declared.record.Running.{Running}
 use Rattle.trm_core.specs.declared.record.Scalars.{Scalars}
 use Rattle.trm_core.specs.Record.{Lent, gathered, whole, advanced, ended, waited}

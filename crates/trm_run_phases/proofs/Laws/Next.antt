@@ -24,7 +24,8 @@ use Rattle.trm_reference.specs.Visible.{word_at, cache_on}
 use Rattle.trm_reference.specs.Access.{place_of_word, Answer}
 use Rattle.trm_reference.specs.Interrupt.{stalled, interrupt_raised, interrupt_chosen}
 use Rattle.trm_reference.specs.Trace.{Pins, After}
-use Rattle.trm_cache.specs.Cache.{Cache, line_at, holds}
+use Rattle.trm_cache.specs.Cache.{line_at, holds}
+use Rattle.trm_cache.specs.declared.record.Cache.{Cache}
 use Rattle.trm_core.specs.declared.record.Running.{Running}
 use Rattle.trm_core.specs.declared.record.Scalars.{Scalars}
 use Rattle.trm_core.specs.Record.{Lent, gathered, whole, in_phase, scalars_with, advanced}

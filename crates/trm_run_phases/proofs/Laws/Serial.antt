@@ -13,7 +13,7 @@ use Rattle.trm_word.specs.Fields.{operation}
 use Rattle.trm_word.specs.Charge.{charge_of}
 use Rattle.trm_reference.specs.Execute.{operand_a, operand_b}
 use Rattle.trm_reference.specs.Interrupt.{stalled}
-use Rattle.trm_cache.specs.Cache.{Cache}
+use Rattle.trm_cache.specs.declared.record.Cache.{Cache}
 use Rattle.trm_core.specs.declared.record.Running.{Running}
 use Rattle.trm_core.specs.declared.record.Scalars.{Scalars}
 use Rattle.trm_core.specs.Record.{gathered, stepping, advanced, waited}

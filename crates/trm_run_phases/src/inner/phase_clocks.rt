@@ -6,13 +6,13 @@ ghost use Rattle.trm_word.specs.Fields.{operation};
 ghost use Rattle.trm_word.specs.Charge.{charges, charge_of};
 ghost use Rattle.trm_reference.specs.Geometry.{paper_geometry};
 ghost use Rattle.trm_reference.specs.Interrupt.{stalled};
-ghost use Rattle.trm_cache.specs.Cache.{cache, line_at, write_word, fill_word};
+ghost use Rattle.trm_cache.specs.Cache.{line_at, write_word, fill_word};
 ghost use Rattle.trm_core.specs.Record.{in_phase, advanced, waited};
 ghost use Rattle.trm_core.specs.Rule.{counts_ok};
 ghost use Rattle.trm_run_phases.specs.Reached.{point, Under, Stands, Quietly};
 
 use crate::inner::going::Going;
-use trm_cache::inner::bursts;
+use trm_cache::record::Cache;
 use trm_clock_bursts::inner::burst_clock;
 use trm_clock_operands::inner::operands;
 use trm_clock_scalars::inner::{interrupt, scalars};
@@ -22,19 +22,16 @@ use trm_core::record::Scalars;
 pub fn held_ahead(
     g: Going,
     regs: &[u32; 16],
-    full: &[u8; 16],
-    dirty: &[u8; 16],
-    block: &[u16; 16],
-    words: &[u32; 128],
+    cache: &Cache,
     store: &[u32],
     pins: &[u8],
 ) -> Going
-    requires { Stands pins.now (point g regs.now (cache full.now dirty.now block.now words.now) store.now)
+    requires { Stands pins.now (point g regs.now cache.now store.now)
         × (g.at < length pins.now) × (stalled (get_or pins.now g.at 0) ≡ true) }
     ensures { ((w : ℕ) → Quietly pins.now w
-        (point g regs.now (cache full.now dirty.now block.now words.now)
+        (point g regs.now cache.now
         store.now)
-        (point result regs.now (cache full.now dirty.now block.now words.now)
+        (point result regs.now cache.now
         store.now)) × (g.at < result.at) }
 {
     let mut c = g.scalars;
@@ -60,10 +57,7 @@ pub fn held_ahead(
 // One clock of the refill of line l with block b: held, or a wait or a word, but not the last.
 fn fill_clock(
     c: Scalars,
-    full: &[u8; 16],
-    dirty: &[u8; 16],
-    block: &[u16; 16],
-    words: &mut [u32; 128],
+    cache: &mut Cache,
     store: &[u32],
     b: u64,
     l: usize,
@@ -71,16 +65,16 @@ fn fill_clock(
 ) -> Scalars
     requires { (counts_ok c.counts ≡ true) × (l < 16) × (c.running.count < 10) × (b < 65536) × (b * 8 + 8 ≤ length store.now) }
     ensures { (result ≡ cond (stalled pins) (waited c) (advanced c (in_phase 3 (c.running.count + 1)) 0 0))
-        × (cache full.now dirty.now block.now words.new
-        ≡ cond (stalled pins) (cache full.now dirty.now block.now words.old)
-        (fill_word paper_geometry (cache full.now dirty.now block.now words.old)
+        × (cache.new
+        ≡ cond (stalled pins) cache.old
+        (fill_word paper_geometry cache.old
         l store.now b c.running.count)) }
 {
     if interrupt::is_stalled(pins) {
         return scalars::hold(c);
     }
     let k = c.running.count;
-    bursts::fill_word(full, dirty, block, words, store, l, b, k);
+    cache.fill_word(store, l, b, k);
     scalars::advance(c, scalars::in_phase(3, k + 1), 0, 0)
 }
 
@@ -88,20 +82,17 @@ fn fill_clock(
 pub fn fill_ahead(
     g: Going,
     regs: &[u32; 16],
-    full: &[u8; 16],
-    dirty: &[u8; 16],
-    block: &[u16; 16],
-    words: &mut [u32; 128],
+    cache: &mut Cache,
     store: &[u32],
     w: u32,
     pins: &[u8],
 ) -> Going
-    requires { Under pins.now w (point g regs.now (cache full.now dirty.now block.now words.old) store.now)
+    requires { Under pins.now w (point g regs.now cache.old store.now)
         × (g.scalars.running.phase ≡ 3) }
     ensures { Quietly pins.now w
-        (point g regs.now (cache full.now dirty.now block.now words.old)
+        (point g regs.now cache.old
         store.now)
-        (point result regs.now (cache full.now dirty.now block.now words.new)
+        (point result regs.now cache.new
         store.now)
         × (result.scalars.pc ≡ g.scalars.pc) × (result.scalars.running.phase ≡ 3) × (g.at ≤ result.at) × (result.finished ≡ g.finished)
         × (result.at < length pins.now → result.scalars.running.count ≡ 9) }
@@ -118,7 +109,7 @@ pub fn fill_ahead(
                 finished: g.finished,
             };
         }
-        c = fill_clock(c, full, dirty, block, words, store, b, l, pins[i]);
+        c = fill_clock(c, cache, store, b, l, pins[i]);
         i += 1;
     }
     Going {
@@ -131,26 +122,23 @@ pub fn fill_ahead(
 // One clock of the write-back of line l: held, or a wait or a word, but not the last.
 fn write_clock(
     c: Scalars,
-    full: &[u8; 16],
-    dirty: &[u8; 16],
-    block: &[u16; 16],
-    words: &[u32; 128],
+    cache: &Cache,
     store: &mut [u32],
     l: usize,
     pins: u8,
 ) -> Scalars
     requires { (counts_ok c.counts ≡ true) × (l < 16) × (c.running.count < 10)
-        × ((line_at paper_geometry (cache full.now dirty.now block.now words.now) l).block * 8 + 8 ≤ length store.old) }
+        × ((line_at paper_geometry cache.now l).block * 8 + 8 ≤ length store.old) }
     ensures { (result ≡ cond (stalled pins) (waited c) (advanced c (in_phase 2 (c.running.count + 1)) 0 0))
         × (store.new ≡ cond (stalled pins) store.old (write_word paper_geometry
-        (line_at paper_geometry (cache full.now dirty.now block.now words.now) l)
+        (line_at paper_geometry cache.now l)
         store.old c.running.count)) }
 {
     if interrupt::is_stalled(pins) {
         return scalars::hold(c);
     }
     let k = c.running.count;
-    bursts::write_word(full, dirty, block, words, store, l, k);
+    cache.write_word(store, l, k);
     scalars::advance(c, scalars::in_phase(2, k + 1), 0, 0)
 }
 
@@ -158,20 +146,17 @@ fn write_clock(
 pub fn write_ahead(
     g: Going,
     regs: &[u32; 16],
-    full: &[u8; 16],
-    dirty: &[u8; 16],
-    block: &[u16; 16],
-    words: &[u32; 128],
+    cache: &Cache,
     store: &mut [u32],
     w: u32,
     pins: &[u8],
 ) -> Going
-    requires { Under pins.now w (point g regs.now (cache full.now dirty.now block.now words.now) store.old)
+    requires { Under pins.now w (point g regs.now cache.now store.old)
         × (g.scalars.running.phase ≡ 2) }
     ensures { Quietly pins.now w
-        (point g regs.now (cache full.now dirty.now block.now words.now)
+        (point g regs.now cache.now
         store.old)
-        (point result regs.now (cache full.now dirty.now block.now words.now)
+        (point result regs.now cache.now
         store.new)
         × (result.scalars.pc ≡ g.scalars.pc) × (result.scalars.running.phase ≡ 2) × (g.at ≤ result.at) × (result.finished ≡ g.finished)
         × (result.at < length pins.now → result.scalars.running.count ≡ 9) }
@@ -181,10 +166,7 @@ pub fn write_ahead(
     let l = burst_clock::line_of_burst(
         c,
         regs,
-        full,
-        dirty,
-        block,
-        words,
+        cache,
         w,
         store.len() as u64,
         clears,
@@ -198,7 +180,7 @@ pub fn write_ahead(
                 finished: g.finished,
             };
         }
-        c = write_clock(c, full, dirty, block, words, store, l, pins[i]);
+        c = write_clock(c, cache, store, l, pins[i]);
         i += 1;
     }
     Going {
@@ -223,21 +205,18 @@ fn wait_clock(c: Scalars, pins: u8) -> Scalars
 pub fn wait_ahead(
     g: Going,
     regs: &[u32; 16],
-    full: &[u8; 16],
-    dirty: &[u8; 16],
-    block: &[u16; 16],
-    words: &[u32; 128],
+    cache: &Cache,
     store: &[u32],
     w: u32,
     pins: &[u8],
     base: &[u64; 16],
 ) -> Going
-    requires { Under pins.now w (point g regs.now (cache full.now dirty.now block.now words.now) store.now)
+    requires { Under pins.now w (point g regs.now cache.now store.now)
         × (g.scalars.running.phase ≡ 4) × (base.now ≡ charges) }
     ensures { Quietly pins.now w
-        (point g regs.now (cache full.now dirty.now block.now words.now)
+        (point g regs.now cache.now
         store.now)
-        (point result regs.now (cache full.now dirty.now block.now words.now)
+        (point result regs.now cache.now
         store.now)
         × (result.scalars.pc ≡ g.scalars.pc) × (result.scalars.running.phase ≡ 4) × (g.at ≤ result.at) × (result.finished ≡ g.finished)
         × (result.at < length pins.now → result.scalars.running.count + 1 ≡ charge_of (operation w) + 4) }

@@ -7,7 +7,6 @@ ghost use Rattle.trm_word.specs.Charge.{charges, charge_of};
 ghost use Rattle.trm_reference.specs.Visible.{Visible};
 ghost use Rattle.trm_reference.specs.Execute.{operand_a, operand_b};
 ghost use Rattle.trm_reference.specs.Interrupt.{stalled};
-ghost use Rattle.trm_cache.specs.Cache.{cache};
 ghost use Rattle.trm_core.specs.Record.{stepping};
 ghost use Rattle.trm_alu.specs.Pair.{pair_divisor};
 ghost use Rattle.trm_clock_scalars.specs.Steps.{Serves};
@@ -15,6 +14,7 @@ ghost use Rattle.trm_clock_scalars.specs.Unit.{in_flight};
 ghost use Rattle.trm_run_phases.specs.Reached.{point, Under, Quietly, serial_at, with_serial};
 
 use crate::inner::going::Going;
+use trm_cache::record::Cache;
 use trm_clock_operands::inner::operands;
 use trm_clock_scalars::inner::packed_unit::Unit;
 use trm_clock_scalars::inner::{interrupt, packed_unit};
@@ -91,21 +91,18 @@ fn after_serial(g: Going, u: Unit, w: u32, k: usize) -> Going
 pub fn steps_ahead(
     g: Going,
     regs: &[u32; 16],
-    full: &[u8; 16],
-    dirty: &[u8; 16],
-    block: &[u16; 16],
-    words: &[u32; 128],
+    cache: &Cache,
     store: &[u32],
     w: u32,
     pins: &[u8],
     base: &[u64; 16],
 ) -> Going
-    requires { Under pins.now w (point g regs.now (cache full.now dirty.now block.now words.now) store.now)
+    requires { Under pins.now w (point g regs.now cache.now store.now)
         × (g.scalars.running.phase ≡ 1) × (base.now ≡ charges) }
     ensures { Quietly pins.now w
-        (point g regs.now (cache full.now dirty.now block.now words.now)
+        (point g regs.now cache.now
         store.now)
-        (point result regs.now (cache full.now dirty.now block.now words.now)
+        (point result regs.now cache.now
         store.now)
         × (result.scalars.pc ≡ g.scalars.pc) × (result.scalars.running.phase ≡ 1) × (g.at ≤ result.at) × (result.finished ≡ g.finished)
         × (result.at < length pins.now → result.scalars.running.count + 1 ≡ charge_of (operation w)) }

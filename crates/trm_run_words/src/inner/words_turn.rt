@@ -7,12 +7,11 @@ ghost use Rattle.trm_word.specs.Address.{store_length_ok};
 ghost use Rattle.trm_reference.specs.Visible.{word_at};
 ghost use Rattle.trm_reference.specs.Access.{is_memory, place_of_word};
 ghost use Rattle.trm_reference.specs.Interrupt.{stalled, interrupt_chosen};
-ghost use Rattle.trm_cache.specs.Cache.{cache};
 ghost use Rattle.trm_core.specs.Record.{gathered, in_phase, advanced};
 ghost use Rattle.trm_core.specs.Rule.{counts_ok};
 ghost use Rattle.trm_run_phases.specs.Reached.{point, At, Turned, Did, Under, Quietly, Begins};
 
-use trm_cache::inner::cache_lines as cached;
+use trm_cache::record::Cache;
 use trm_clock_bursts::inner::burst_clock;
 use trm_clock_ends::inner::word_begins as first;
 use trm_clock_execute::inner::execute;
@@ -40,20 +39,17 @@ fn enters(g: Going, phase: u64, count: u64) -> Going
 fn branch(
     g: Going,
     regs: &[u32; 16],
-    full: &[u8; 16],
-    dirty: &[u8; 16],
-    block: &[u16; 16],
-    words: &[u32; 128],
+    cache: &Cache,
     store: &[u32],
     w: u32,
     pins: &[u8],
 ) -> Going
-    requires { Under pins.now w (point g regs.now (cache full.now dirty.now block.now words.now) store.now)
+    requires { Under pins.now w (point g regs.now cache.now store.now)
         × Begins pins.now g × (operation w ≡ 14) }
     ensures { Quietly pins.now w
-        (point g regs.now (cache full.now dirty.now block.now words.now)
+        (point g regs.now cache.now
         store.now)
-        (point result regs.now (cache full.now dirty.now block.now words.now)
+        (point result regs.now cache.now
         store.now)
         × (g.at < result.at) }
 {
@@ -74,10 +70,7 @@ fn load(
     g: Going,
     program: &[u32],
     regs: &mut [u32; 16],
-    full: &mut [u8; 16],
-    dirty: &mut [u8; 16],
-    block: &mut [u16; 16],
-    words: &mut [u32; 128],
+    cache: &mut Cache,
     store: &mut [u32],
     w: u32,
     pins: &[u8],
@@ -86,15 +79,15 @@ fn load(
     outs: &mut [u32],
     stops: bool,
 ) -> Going
-    requires { At program.now pins.now inputs.now (point g regs.old (cache full.old dirty.old block.old words.old)
+    requires { At program.now pins.now inputs.now (point g regs.old cache.old
         store.old) bytes.old outs.old
         × (w ≡ word_at program.now g.scalars.pc)
         × Begins pins.now g × (operation w ≡ 12) }
     ensures { Turned program.now pins.now inputs.now
-        (point g regs.old (cache full.old dirty.old block.old words.old)
+        (point g regs.old cache.old
         store.old)
         bytes.old outs.old
-        (point result regs.new (cache full.new dirty.new block.new words.new)
+        (point result regs.new cache.new
         store.new)
         bytes.new outs.new × Did stops g.at result.at bytes.old bytes.new }
 {
@@ -122,8 +115,8 @@ fn load(
             }
             let b = a / 8;
             let l = (b % 16) as usize;
-            if !cached::line_holds(full, dirty, block, words, l, b) {
-                let m = burst_clock::miss(full, dirty, block, words, l);
+            if !cache.line_holds(l, b) {
+                let m = burst_clock::miss(cache, l);
                 let running = m.running;
                 let next = scalars::advance(c, running, m.refilled, m.written);
                 return going::quietly(g, next, 0);
@@ -132,7 +125,7 @@ fn load(
             if !going::due(pins, h.at) {
                 return h;
             }
-            let x = cached::peek(full, dirty, block, words, store, a as usize);
+            let x = cache.peek(store, a as usize);
             going::quietly(h, execute::load(h.scalars, regs, w, x), 1)
         }
     }
@@ -158,10 +151,7 @@ fn begin(
     g: Going,
     program: &[u32],
     regs: &mut [u32; 16],
-    full: &mut [u8; 16],
-    dirty: &mut [u8; 16],
-    block: &mut [u16; 16],
-    words: &mut [u32; 128],
+    cache: &mut Cache,
     store: &mut [u32],
     w: u32,
     pins: &[u8],
@@ -170,15 +160,15 @@ fn begin(
     outs: &mut [u32],
     stops: bool,
 ) -> Going
-    requires { At program.now pins.now inputs.now (point g regs.old (cache full.old dirty.old block.old words.old)
+    requires { At program.now pins.now inputs.now (point g regs.old cache.old
         store.old) bytes.old outs.old
         × (w ≡ word_at program.now g.scalars.pc)
         × Begins pins.now g × (8 ≤ operation w) }
     ensures { Turned program.now pins.now inputs.now
-        (point g regs.old (cache full.old dirty.old block.old words.old)
+        (point g regs.old cache.old
         store.old)
         bytes.old outs.old
-        (point result regs.new (cache full.new dirty.new block.new words.new)
+        (point result regs.new cache.new
         store.new)
         bytes.new outs.new × Did stops g.at result.at bytes.old bytes.new }
 {
@@ -187,27 +177,27 @@ fn begin(
     match op {
         11 => {
             let r = first::first_control(
-                g.scalars, regs, full, dirty, block, words, store, w, inputs[at],
+                g.scalars, regs, cache, store, w, inputs[at],
             );
             going::went(g, r, bytes, outs)
         }
         12 => load(
-            g, program, regs, full, dirty, block, words, store, w, pins, inputs, bytes, outs, stops,
+            g, program, regs, cache, store, w, pins, inputs, bytes, outs, stops,
         ),
         13 => {
             if store_waits(stops, g.scalars, regs, w, store.len() as u64) {
                 return g;
             }
             let r = first::first_store(
-                g.scalars, regs, full, dirty, block, words, store, w, inputs[at],
+                g.scalars, regs, cache, store, w, inputs[at],
             );
             going::went(g, r, bytes, outs)
         }
-        14 => branch(g, regs, full, dirty, block, words, store, w, pins),
+        14 => branch(g, regs, cache, store, w, pins),
         15 => enters(g, 5, 0),
         _ => {
             let r = first::first_arithmetic(
-                g.scalars, regs, full, dirty, block, words, store, w, inputs[at],
+                g.scalars, regs, cache, store, w, inputs[at],
             );
             going::went(g, r, bytes, outs)
         }
@@ -248,10 +238,7 @@ pub fn ready_turn(
     g: Going,
     program: &[u32],
     regs: &mut [u32; 16],
-    full: &mut [u8; 16],
-    dirty: &mut [u8; 16],
-    block: &mut [u16; 16],
-    words: &mut [u32; 128],
+    cache: &mut Cache,
     store: &mut [u32],
     pins: &[u8],
     inputs: &[u32],
@@ -259,13 +246,13 @@ pub fn ready_turn(
     outs: &mut [u32],
     stops: bool,
 ) -> Going
-    requires { At program.now pins.now inputs.now (point g regs.old (cache full.old dirty.old block.old words.old)
+    requires { At program.now pins.now inputs.now (point g regs.old cache.old
         store.old) bytes.old outs.old × Begins pins.now g }
     ensures { Turned program.now pins.now inputs.now
-        (point g regs.old (cache full.old dirty.old block.old words.old)
+        (point g regs.old cache.old
         store.old)
         bytes.old outs.old
-        (point result regs.new (cache full.new dirty.new block.new words.new)
+        (point result regs.new cache.new
         store.new)
         bytes.new outs.new × Did stops g.at result.at bytes.old bytes.new }
 {
@@ -281,7 +268,7 @@ pub fn ready_turn(
             continue;
         }
         h = begin(
-            h, program, regs, full, dirty, block, words, store, w, pins, inputs, bytes, outs, stops,
+            h, program, regs, cache, store, w, pins, inputs, bytes, outs, stops,
         );
         if h.at == at {
             return h; // the next clock writes to a device
