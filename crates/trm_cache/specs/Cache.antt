@@ -9,14 +9,9 @@ use Rattle.std.specs.Prelude.{ℕ, zero, suc, ◌+◌, ◌-◌, ◌*◌, ◌%◌
 use Rattle.trm_word.specs.Condition.{is_set}
 use Rattle.trm_reference.specs.Geometry.{Geometry, block_of, line_of}
 use Rattle.trm_reference.specs.History.{how_many}
+use Rattle.trm_cache.specs.declared.record.Cache.{Cache}
 
--- per line full, dirty and block; the words of all lines
-pub record Cache : Type 0 where
-  pub full : List ℕ
-  pub dirty : List ℕ
-  pub block : List ℕ
-  pub words : List ℕ
-
+-- the record of the code: per line full, dirty and block; the words of all lines
 abbrev pub cache : List ℕ → List ℕ → List ℕ → List ℕ → Cache
 cache f d b ws = record { full = f; dirty = d; block = b; words = ws }
 

@@ -3,7 +3,8 @@
 -- proofs/Theorems.antt.
 use Rattle.std.specs.Prelude.{ℕ, ◌+◌, ◌*◌, ◌≤◌, ◌<◌, ◌≡◌, ◌≢◌, List, length}
 use Rattle.trm_reference.specs.Geometry.{Geometry, burst}
-use Rattle.trm_cache.specs.Cache.{Cache, Line, line_at}
+use Rattle.trm_cache.specs.Cache.{Line, line_at}
+use Rattle.trm_cache.specs.declared.record.Cache.{Cache}
 use Rattle.trm_cache.specs.Copy.{writes, fills, copied, block_words}
 use Rattle.trm_cache.specs.Steps.{rows, AllHold}
 

@@ -4,7 +4,8 @@
 --   copied   the store with a line copied in        block_words   a block
 use Rattle.std.specs.Prelude.{ℕ, zero, suc, ◌+◌, ◌*◌, List, ◌++◌, take, drop}
 use Rattle.trm_reference.specs.Geometry.{Geometry}
-use Rattle.trm_cache.specs.Cache.{Cache, Line, write_word, fill_word}
+use Rattle.trm_cache.specs.Cache.{Line, write_word, fill_word}
+use Rattle.trm_cache.specs.declared.record.Cache.{Cache}
 
 -- the store after the first k clocks of the write-back of a line
 unfoldable pub writes : Geometry → Line → List ℕ → ℕ → List ℕ

@@ -5,7 +5,8 @@
 --   rows      the result of a step, and the result expected from the paper        AllHold rs   the two are equal in every row
 use Rattle.std.specs.Prelude.{ℕ, zero, suc, ◌+◌, ◌-◌, ◌≡◌, List, [], ◌∷◌, ◌++◌, map, replicate}
 use Rattle.trm_reference.specs.Geometry.{paper_geometry}
-use Rattle.trm_cache.specs.Cache.{Cache, Line, cache, line_at, view, copy_of, emptied, cleaned, filled, stored_to}
+use Rattle.trm_cache.specs.Cache.{Line, cache, line_at, view, copy_of, emptied, cleaned, filled, stored_to}
+use Rattle.trm_cache.specs.declared.record.Cache.{Cache}
 use Rattle.trm_cache.specs.Cache.{write_word, fill_word, count_dirty, first_dirty, all_emptied}
 use Rattle.trm_cache.specs.Copy.{writes, fills}
 

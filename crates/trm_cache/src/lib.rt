@@ -1,6 +1,7 @@
-// The cache in code: functions on its four arrays and on a slice of the store.
+// The cache in code: its lines as a value, and its methods, some of them with a slice of the store.
 // Paper: "Each ten is two waits and eight words in rising order"; "10 for each dirty line, lowest line first".
-// Every function is shared with other crates and is in `inner`.
+// `record`: the struct; `inner`: its methods, which are all shared with other crates.
 #![tactic(auto)]
 
 pub mod inner;
+pub mod record;

@@ -13,7 +13,8 @@ use native.Mathlib.Omega.{arith}
 use native.Mathlib.Decide.{ℕ_discrete}
 use Rattle.trm_laws.proofs.Tests.{bool_clash}
 use Rattle.trm_reference.specs.Geometry.{Geometry, burst, block_of, line_of}
-use Rattle.trm_cache.specs.Cache.{Cache, Line, line_at, holds, line_view, view, write_word}
+use Rattle.trm_cache.specs.Cache.{Line, line_at, holds, line_view, view, write_word}
+use Rattle.trm_cache.specs.declared.record.Cache.{Cache}
 use Rattle.trm_cache.proofs.Laws.Lines.{clean_line, full_line, line_with, fill_line, Becomes}
 use Rattle.trm_cache.proofs.Laws.Cache.{LineOk, Sane, holds-yes, block_at, view-update}
 

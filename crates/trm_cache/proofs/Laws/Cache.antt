@@ -13,7 +13,8 @@ use native.Mathlib.Decide.{ℕ_discrete}
 use native.Mathlib.Nat.{div-add-mod', mul-add-div_right, div-eq_of_lt, mod-lt, add-zero, le_trans}
 use Rattle.trm_laws.proofs.Tests.{bool_clash, clash}
 use Rattle.trm_reference.specs.Geometry.{Geometry, block_of, line_of}
-use Rattle.trm_cache.specs.Cache.{Cache, Line, stride, line_at, holds, line_view, view, stored_to}
+use Rattle.trm_cache.specs.Cache.{Line, stride, line_at, holds, line_view, view, stored_to}
+use Rattle.trm_cache.specs.declared.record.Cache.{Cache}
 use Rattle.trm_cache.proofs.Laws.Lines.{empty_line, store_line, Wide, Becomes, becomes_stored}
 
 pub record LineOk (G : Geometry) (s : List ℕ) (l : ℕ) (ln : Line) : Type 0 where

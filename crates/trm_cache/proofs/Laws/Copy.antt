@@ -12,7 +12,8 @@ use borrow.Author.Tests.{le-leb, lt-leb}
 use native.Mathlib.Omega.{arith}
 use native.Mathlib.Nat.{mul-le-mul_right, suc-mul, le_trans, add-suc, add-zero}
 use Rattle.trm_reference.specs.Geometry.{Geometry, burst}
-use Rattle.trm_cache.specs.Cache.{Cache, Line, cache, with_word, line_at, write_word, fill_word}
+use Rattle.trm_cache.specs.Cache.{Line, cache, with_word, line_at, write_word, fill_word}
+use Rattle.trm_cache.specs.declared.record.Cache.{Cache}
 use Rattle.trm_cache.specs.Copy.{writes, fills, copied, block_words}
 use Rattle.trm_cache.specs.Claims.{WriteIsCopy, FillIsCopy, FillOtherLines, FillMarks}
 use Rattle.trm_cache.proofs.Laws.Lines.{words-there}

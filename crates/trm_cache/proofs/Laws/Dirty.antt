@@ -14,7 +14,8 @@ use native.Mathlib.Decide.{ℕ_discrete}
 use borrow.Author.Tests.{eqb-true, eqb-false}
 use Rattle.trm_reference.specs.Geometry.{Geometry, block_of, line_of}
 use Rattle.trm_reference.specs.History.{how_many}
-use Rattle.trm_cache.specs.Cache.{Cache, Line, line_at, view, emptied, lowest, count_dirty, first_dirty, empty_to, all_emptied}
+use Rattle.trm_cache.specs.Cache.{Line, line_at, view, emptied, lowest, count_dirty, first_dirty, empty_to, all_emptied}
+use Rattle.trm_cache.specs.declared.record.Cache.{Cache}
 use Rattle.trm_cache.specs.Cache.{below, copy_of}
 use Rattle.trm_cache.proofs.Laws.Lines.{empty_line, Wide, Becomes, becomes_empty}
 use Rattle.trm_cache.proofs.Laws.Cache.{Sane, clean-view, emptied-ok}

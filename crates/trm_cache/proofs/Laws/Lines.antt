@@ -13,7 +13,8 @@ use native.Mathlib.Omega.{arith}
 use native.Mathlib.Decide.{ℕ_discrete}
 use native.Mathlib.Nat.{mul-le-mul_right, suc-mul, le_trans}
 use Rattle.trm_reference.specs.Geometry.{Geometry, burst}
-use Rattle.trm_cache.specs.Cache.{Cache, Line, stride, line_at, emptied, cleaned, filled, with_word, stored_to, fill_word}
+use Rattle.trm_cache.specs.Cache.{Line, stride, line_at, emptied, cleaned, filled, with_word, stored_to, fill_word}
+use Rattle.trm_cache.specs.declared.record.Cache.{Cache}
 
 -- a line after each setter
 abbrev pub empty_line : Line → Line

@@ -12,7 +12,8 @@ use native.Mathlib.Omega.{arith}
 use native.Mathlib.Numerals.{add-one}
 use Rattle.trm_reference.specs.Geometry.{paper_geometry}
 use Rattle.trm_reference.specs.History.{how_many}
-use Rattle.trm_cache.specs.Cache.{Cache, line_at, lowest, count_dirty, first_dirty, emptied, empty_to, all_emptied}
+use Rattle.trm_cache.specs.Cache.{line_at, lowest, count_dirty, first_dirty, emptied, empty_to, all_emptied}
+use Rattle.trm_cache.specs.declared.record.Cache.{Cache}
 
 module _ (l : List ℕ) (b n k : ℕ) (fits : b + n ≤ length l) (low : k < n) where
   short : length (take n (drop b l)) ≡ n

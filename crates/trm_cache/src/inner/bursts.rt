@@ -3,7 +3,9 @@
 // `put_in_block` and `word_in_block` borrow the block as a slice of the store; `put_word` and `word_of` take a slice of any length.
 ghost use Rattle.std.specs.Prelude.{◌≡◌, ◌+◌, ◌*◌, ◌≤◌, ◌<◌, length, get_or, set};
 ghost use Rattle.trm_reference.specs.Geometry.{paper_geometry};
-ghost use Rattle.trm_cache.specs.Cache.{cache, line_at, write_word, fill_word};
+ghost use Rattle.trm_cache.specs.Cache.{line_at, write_word, fill_word};
+
+use crate::record::Cache;
 
 // Word k of the borrowed block.
 fn put_word(part: &mut [u32], k: usize, x: u32)
@@ -39,49 +41,29 @@ fn word_in_block(store: &[u32], b: usize, n: usize, k: usize) -> u32
     word_of(&store[a..e], k)
 }
 
-// The store after one clock of the write-back of line l.
-pub fn write_word(
-    full: &[u8; 16],
-    dirty: &[u8; 16],
-    block: &[u16; 16],
-    words: &[u32; 128],
-    store: &mut [u32],
-    l: usize,
-    k: u64,
-)
-    requires { (l < 16) × (k < 10)
-        × ((line_at paper_geometry (cache full.now dirty.now block.now words.now) l).block * 8 + 8 ≤ length store.old) }
-    ensures { store.new ≡ write_word paper_geometry
-        (line_at paper_geometry (cache full.now dirty.now block.now words.now) l)
-        store.old k }
-{
-    if k < 2 {
-        return;
+impl Cache {
+    // The store after one clock of the write-back of line l.
+    pub fn write_word(&self, store: &mut [u32], l: usize, k: u64)
+        requires { (l < 16) × (k < 10) × ((line_at paper_geometry self.now l).block * 8 + 8 ≤ length store.old) }
+        ensures { store.new ≡ write_word paper_geometry (line_at paper_geometry self.now l) store.old k }
+    {
+        if k < 2 {
+            return;
+        }
+        let j = (k - 2) as usize;
+        let b = self.line_block(l) as usize;
+        put_in_block(store, b, 8, j, self.words[l * 8 + j]);
     }
-    let j = (k - 2) as usize;
-    let b = super::cache_lines::line_block(full, dirty, block, words, l) as usize;
-    put_in_block(store, b, 8, j, words[l * 8 + j]);
-}
 
-// The cache after one clock of the refill of line l with block b.
-pub fn fill_word(
-    full: &[u8; 16],
-    dirty: &[u8; 16],
-    block: &[u16; 16],
-    words: &mut [u32; 128],
-    store: &[u32],
-    l: usize,
-    b: u64,
-    k: u64,
-)
-    requires { (l < 16) × (k < 10) × (b < 65536) × (b * 8 + 8 ≤ length store.now) }
-    ensures { cache full.now dirty.now block.now words.new
-        ≡ fill_word paper_geometry (cache full.now dirty.now block.now words.old)
-        l store.now b k }
-{
-    if k < 2 {
-        return;
+    // The cache after one clock of the refill of line l with block b.
+    pub fn fill_word(&mut self, store: &[u32], l: usize, b: u64, k: u64)
+        requires { (l < 16) × (k < 10) × (b < 65536) × (b * 8 + 8 ≤ length store.now) }
+        ensures { self.new ≡ fill_word paper_geometry self.old l store.now b k }
+    {
+        if k < 2 {
+            return;
+        }
+        let i = (k - 2) as usize;
+        self.words[l * 8 + i] = word_in_block(store, b as usize, 8, i);
     }
-    let i = (k - 2) as usize;
-    words[l * 8 + i] = word_in_block(store, b as usize, 8, i);
 }

@@ -3,7 +3,9 @@
 // The loops visit the sixteen lines in rising order, as the definitions do.
 ghost use Rattle.std.specs.Prelude.{◌≡◌, cond, ◌+◌, ◌<◌, eqb};
 ghost use Rattle.trm_reference.specs.Geometry.{paper_geometry};
-ghost use Rattle.trm_cache.specs.Cache.{cache, count_dirty, first_dirty, all_emptied};
+ghost use Rattle.trm_cache.specs.Cache.{count_dirty, first_dirty, all_emptied};
+
+use crate::record::Cache;
 
 // The number of dirty lines, and the lowest of them, 0 if there is none.
 #[derive(Clone, Copy)]
@@ -29,45 +31,26 @@ fn lower(count: u64, first: usize, i: usize, d: bool) -> usize
     if d { i } else { 0 }
 }
 
-pub fn dirty_lines(
-    full: &[u8; 16],
-    dirty: &[u8; 16],
-    block: &[u16; 16],
-    words: &[u32; 128],
-) -> Dirty
-    ensures { (result.count
-        ≡ count_dirty paper_geometry (cache full.now dirty.now block.now words.now))
-        × (result.first
-        ≡ first_dirty paper_geometry (cache full.now dirty.now block.now words.now))
-        × (result.first < 16) × (result.count < 17) }
-{
-    let mut count: u64 = 0;
-    let mut first: usize = 0;
-    let mut i: usize = 0;
-    while i < 16 {
-        let d = super::cache_lines::line_dirty(full, dirty, block, words, i);
-        first = lower(count, first, i, d);
-        count = count_one(count, d);
-        i += 1;
+impl Cache {
+    pub fn dirty_lines(&self) -> Dirty
+        ensures { (result.count ≡ count_dirty paper_geometry self.now) × (result.first ≡ first_dirty paper_geometry self.now)
+            × (result.first < 16) × (result.count < 17) }
+    {
+        let mut count: u64 = 0;
+        let mut first: usize = 0;
+        for i in 0..16 {
+            let d = self.line_dirty(i);
+            first = lower(count, first, i, d);
+            count = count_one(count, d);
+        }
+        Dirty { count, first }
     }
-    Dirty {
-        count: count,
-        first: first,
-    }
-}
 
-pub fn empty_all(
-    full: &mut [u8; 16],
-    dirty: &mut [u8; 16],
-    block: &mut [u16; 16],
-    words: &[u32; 128],
-)
-    ensures { cache full.new dirty.new block.new words.now
-        ≡ all_emptied paper_geometry (cache full.old dirty.old block.old words.now) }
-{
-    let mut i: usize = 0;
-    while i < 16 {
-        super::cache_lines::empty_line(full, dirty, block, i);
-        i += 1;
+    pub fn empty_all(&mut self)
+        ensures { self.new ≡ all_emptied paper_geometry self.old }
+    {
+        for i in 0..16 {
+            self.empty_line(i);
+        }
     }
 }

@@ -1,6 +1,6 @@
 use native.Mathlib.Omega.{arith}
 use Rattle.trm_cache.proofs.Laws.Parts.{counting-none, counting_more, counting-end}
-use Rattle.trm_cache.proofs.inner.switch_off.dirty_lines.Goals as goal
+use Rattle.trm_cache.proofs.record.Cache.dirty_lines.Goals as goal
 
 pub loop-i-init : goal.loop-i-init
 loop-i-init c = counting-none _
@@ -13,12 +13,6 @@ lower-first-requires c = (c.loop-i.invariant.low, c.loop-i-test.true)
 
 pub count_one-count-requires : goal.count_one-count-requires
 count_one-count-requires c = omega (arith, c.loop-i.invariant.few, c.loop-i-test.true)
-
-pub overflow_add-i : goal.overflow_add-i
-overflow_add-i c = omega (arith, c.loop-i-test.true)
-
-pub loop-i-smaller : goal.loop-i-smaller
-loop-i-smaller c = omega (arith, c.loop-i-test.true)
 
 pub loop-i-preserved : goal.loop-i-preserved
 loop-i-preserved c =

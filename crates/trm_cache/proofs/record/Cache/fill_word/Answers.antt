@@ -1,7 +1,7 @@
 -- By cases: a wait, or one word.
 use borrow.Author.Tests.{lt-leb, le-leb}
 use Rattle.trm_cache.specs.Cache.{fill_word}
-use Rattle.trm_cache.proofs.inner.bursts.fill_word.Goals as goal
+use Rattle.trm_cache.proofs.record.Cache.fill_word.Goals as goal
 
 pub returns-then-k-lt2 : goal.returns-then-k-lt2
 unfolding fill_word

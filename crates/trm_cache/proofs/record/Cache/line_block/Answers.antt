@@ -1,5 +1,5 @@
 use Rattle.trm_cache.specs.Cache.{line_at}
-use Rattle.trm_cache.proofs.inner.cache_lines.line_block.Goals as goal
+use Rattle.trm_cache.proofs.record.Cache.line_block.Goals as goal
 
 pub returns : goal.returns
 unfolding line_at

@@ -1,6 +1,6 @@
 use Rattle.trm_cache.specs.Cache.{line_at}
 use mathlib.Core.Path.{refl}
-use Rattle.trm_cache.proofs.inner.cache_lines.line_dirty.Goals as goal
+use Rattle.trm_cache.proofs.record.Cache.line_dirty.Goals as goal
 
 pub returns : goal.returns
 unfolding line_at

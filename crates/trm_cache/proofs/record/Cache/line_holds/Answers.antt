@@ -1,15 +1,11 @@
 -- By cases: the line is full or not.
 use Rattle.trm_cache.specs.Cache.{holds}
-use Rattle.trm_cache.proofs.inner.cache_lines.line_holds.Goals as goal
+use Rattle.trm_cache.proofs.record.Cache.line_holds.Goals as goal
 
-pub returns-then-not-line_full : goal.returns-then-not-line_full
+pub returns-then-line_full : goal.returns-then-line_full
 unfolding holds
-returns-then-not-line_full c = rw (← c.line_full.ensures, c.if-not-line_full.true)
+returns-then-line_full c = rw (← c.line_full.ensures, c.if-line_full.true, c.line_block.ensures.0)
 
-pub returns : goal.returns
+pub returns-else-line_full : goal.returns-else-line_full
 unfolding holds
-returns c = rw (
-  ← c.line_full.ensures,
-  c.if-not-line_full.false,
-  c.line_block.ensures.0,
-)
+returns-else-line_full c = rw (← c.line_full.ensures, c.if-line_full.false)

@@ -5,7 +5,7 @@ use native.Mathlib.Omega.{arith}
 use Prim.Native.Nat.{◌-◌}
 use borrow.Author.Tests.{lt-leb, le-leb}
 use Rattle.trm_cache.specs.Cache.{write_word}
-use Rattle.trm_cache.proofs.inner.bursts.write_word.Goals as goal
+use Rattle.trm_cache.proofs.record.Cache.write_word.Goals as goal
 
 pub returns-then-k-lt2 : goal.returns-then-k-lt2
 unfolding write_word
@@ -17,6 +17,6 @@ returns c = rw (
   le-leb 2 _ c.if-k-lt2.false,
   c.put_in_block.ensures,
   c.line_block-b.ensures.0,
-  word_flat c.args.words.now c.args.l (c.args.k - 2)
+  word_flat c.args.self.now.words c.args.l (c.args.k - 2)
       (omega (arith, c.requires.1, c.if-k-lt2.false)),
 )
