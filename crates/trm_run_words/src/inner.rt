@@ -1,4 +1,4 @@
 // `words_turn` has the loop over instructions.
-// `g` is the run's state, by value; the arrays are borrowed in the order regs, cache; `w` is the word at PC.
+// `g` is the run's state, by value, and the registers and the cache are borrowed; `w` is the word at PC.
 // A function here may have a `requires`. Each has one caller or is small, so that it is inlined (D-53).
 pub mod words_turn;

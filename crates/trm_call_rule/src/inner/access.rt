@@ -119,8 +119,7 @@ pub fn line_for_full(
     n: u64,
 ) -> bool
     requires { store_length_ok n ≡ true }
-    ensures { result ≡ (line_for paper_geometry w n (gathered c regs.now)
-        cache.now).full }
+    ensures { result ≡ (line_for paper_geometry w n (gathered c regs.now) cache.now).full }
 {
     cache.line_full(target_line(c, regs, w, n))
 }
@@ -134,8 +133,7 @@ pub fn line_for_dirty(
     n: u64,
 ) -> bool
     requires { store_length_ok n ≡ true }
-    ensures { result ≡ (line_for paper_geometry w n (gathered c regs.now)
-        cache.now).dirty }
+    ensures { result ≡ (line_for paper_geometry w n (gathered c regs.now) cache.now).dirty }
 {
     cache.line_dirty(target_line(c, regs, w, n))
 }
@@ -149,8 +147,7 @@ pub fn hits(
     n: u64,
 ) -> bool
     requires { store_length_ok n ≡ true }
-    ensures { result ≡ hits paper_geometry w n (gathered c regs.now)
-        cache.now }
+    ensures { result ≡ hits paper_geometry w n (gathered c regs.now) cache.now }
 {
     let l = target_line(c, regs, w, n);
     let b = target_block(c, regs, w, n);

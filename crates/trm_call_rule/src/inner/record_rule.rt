@@ -138,8 +138,7 @@ fn wait_ok(c: Scalars, regs: &[u32; 16], w: u32, n: u64, count: u64) -> bool
 
 // Whether the cache has a dirty line.
 fn any_dirty(cache: &Cache) -> bool
-    ensures { result ≡ not (eqb (count_dirty paper_geometry
-        cache.now) 0) }
+    ensures { result ≡ not (eqb (count_dirty paper_geometry cache.now) 0) }
 {
     let d = cache.dirty_lines();
     d.count != 0
@@ -154,12 +153,9 @@ fn evicts(
     n: u64,
 ) -> bool
     requires { store_length_ok n ≡ true }
-    ensures { result ≡ ((line_for paper_geometry w n (gathered c regs.now)
-        cache.now).full
-        && (line_for paper_geometry w n (gathered c regs.now)
-        cache.now).dirty
-        && not (hits paper_geometry w n (gathered c regs.now)
-        cache.now)) }
+    ensures { result ≡ ((line_for paper_geometry w n (gathered c regs.now) cache.now).full
+        && (line_for paper_geometry w n (gathered c regs.now) cache.now).dirty
+        && not (hits paper_geometry w n (gathered c regs.now) cache.now)) }
 {
     if !super::access::line_for_full(c, regs, cache, w, n) {
         return false;
@@ -180,8 +176,7 @@ fn writeback_ok(
     count: u64,
 ) -> bool
     requires { store_length_ok n ≡ true }
-    ensures { result ≡ writeback_ok paper_geometry w n count (gathered c regs.now)
-        cache.now }
+    ensures { result ≡ writeback_ok paper_geometry w n count (gathered c regs.now) cache.now }
 {
     if count >= 10 {
         return false;
@@ -205,8 +200,7 @@ fn refill_ok(
     count: u64,
 ) -> bool
     requires { store_length_ok n ≡ true }
-    ensures { result ≡ refill_ok paper_geometry w n count (gathered c regs.now)
-        cache.now }
+    ensures { result ≡ refill_ok paper_geometry w n count (gathered c regs.now) cache.now }
 {
     if count >= 10 {
         return false;
@@ -224,8 +218,7 @@ fn off_due(
     cache: &Cache,
     w: u32,
 ) -> bool
-    ensures { result ≡ (turns_cache_off w (gathered c regs.now)
-        && eqb (count_dirty paper_geometry cache.now) 0) }
+    ensures { result ≡ (turns_cache_off w (gathered c regs.now) && eqb (count_dirty paper_geometry cache.now) 0) }
 {
     if !trm_clock_operands::inner::operands::turns_cache_off(c, regs, w) {
         return false;
@@ -254,8 +247,7 @@ fn hit_due(
     n: u64,
 ) -> bool
     requires { store_length_ok n ≡ true }
-    ensures { result ≡ (to_memory w (gathered c regs.now) n && hits paper_geometry w n (gathered c regs.now)
-        cache.now) }
+    ensures { result ≡ (to_memory w (gathered c regs.now) n && hits paper_geometry w n (gathered c regs.now) cache.now) }
 {
     if !super::access::to_memory(c, regs, w, n) {
         return false;
@@ -272,8 +264,7 @@ fn due_ok(
     n: u64,
 ) -> bool
     requires { store_length_ok n ≡ true }
-    ensures { result ≡ due_ok paper_geometry w n (gathered c regs.now)
-        cache.now }
+    ensures { result ≡ due_ok paper_geometry w n (gathered c regs.now) cache.now }
 {
     if super::access::takes_branch(c, regs, w) {
         return true;
@@ -302,8 +293,7 @@ fn phase_ok(
     n: u64,
 ) -> bool
     requires { store_length_ok n ≡ true }
-    ensures { result ≡ phase_ok paper_geometry w n c.running (gathered c regs.now)
-        cache.now }
+    ensures { result ≡ phase_ok paper_geometry w n c.running (gathered c regs.now) cache.now }
 {
     if c.running.phase == 0 {
         return c.running.count == 0;
@@ -335,8 +325,7 @@ fn marks_ok(
     l: usize,
 ) -> bool
     requires { l < 16 }
-    ensures { result ≡ marks_ok
-        cache.now l }
+    ensures { result ≡ marks_ok cache.now l }
 {
     if full[l] >= 2 {
         return false;
@@ -353,8 +342,7 @@ fn full_ok(
 ) -> bool
     requires { (l < 16)
         × ((line_at paper_geometry cache.now l).full ≡ true) }
-    ensures { result ≡ line_ok paper_geometry on n l
-        (line_at paper_geometry cache.now l) }
+    ensures { result ≡ line_ok paper_geometry on n l (line_at paper_geometry cache.now l) }
 {
     let b = cache.line_block(l);
     if !on {
@@ -385,10 +373,7 @@ fn good_line(
     l: usize,
 ) -> bool
     requires { l < 16 }
-    ensures { result ≡ (marks_ok
-        cache.now l
-        && line_ok paper_geometry on n l
-        (line_at paper_geometry cache.now l)) }
+    ensures { result ≡ (marks_ok cache.now l && line_ok paper_geometry on n l (line_at paper_geometry cache.now l)) }
 {
     if full[l] == 0 {
         return empty_ok(dirty, block, l);
@@ -405,8 +390,7 @@ fn lines_ok(
     n: u64,
     cache: &Cache,
 ) -> bool
-    ensures { result ≡ lines_ok paper_geometry on n
-        cache.now }
+    ensures { result ≡ lines_ok paper_geometry on n cache.now }
 {
     let mut l: usize = 0;
     while l < 16 {
@@ -427,8 +411,7 @@ pub fn record_ok(
     n: u64,
 ) -> bool
     requires { store_length_ok n ≡ true }
-    ensures { result ≡ record_ok paper_geometry program.now n (whole c regs.now
-        cache.now) }
+    ensures { result ≡ record_ok paper_geometry program.now n (whole c regs.now cache.now) }
 {
     let w = trm_clock_operands::inner::operands::word_at(program, c.pc);
     if !widths_ok(c, regs) {

@@ -32,23 +32,17 @@ fn moves(phase: u64, count: u64, refilled: u64, written: u64) -> Motion
 {
     let running = scalars::in_phase(phase, count);
     Motion {
-        running: running,
-        refilled: refilled,
-        written: written,
+        running,
+        refilled,
+        written,
     }
 }
 
 // After the write-back of line l: the next dirty line if the cache is turned off, else line l is emptied and refilled.
-fn written_back(
-    cache: &mut Cache,
-    clears: bool,
-    l: usize,
-) -> Motion
+fn written_back(cache: &mut Cache, clears: bool, l: usize) -> Motion
     requires { l < 16 }
-    ensures { ((c : Scalars) (s : List ℕ) → moved c result.running
-        cache.new s result.refilled result.written
-        ≡ written paper_geometry clears l c
-        cache.old s)
+    ensures { ((c : Scalars) (s : List ℕ) → moved c result.running cache.new s result.refilled result.written
+        ≡ written paper_geometry clears l c cache.old s)
         × (result.refilled ≤ 1) × (result.written ≤ 1) }
 {
     if clears {
@@ -63,39 +57,23 @@ fn written_back(
 }
 
 // The tenth and last clock of the write-back of line l.
-pub fn end_write_back(
-    cache: &mut Cache,
-    store: &mut [u32],
-    clears: bool,
-    l: usize,
-) -> Motion
+pub fn end_write_back(cache: &mut Cache, store: &mut [u32], clears: bool, l: usize) -> Motion
     requires { (l < 16)
         × ((line_at paper_geometry cache.old l).block * 8 + 8 ≤ length store.old) }
-    ensures { ((c : Scalars) → moved c result.running
-        cache.new store.new result.refilled
-        result.written
-        ≡ writing paper_geometry clears l 9 c
-        cache.old store.old)
+    ensures { ((c : Scalars) → moved c result.running cache.new store.new result.refilled result.written
+        ≡ writing paper_geometry clears l 9 c cache.old store.old)
         × (result.refilled ≤ 1) × (result.written ≤ 1) }
 {
     cache.write_word(store, l, 9);
-    dirty[l] = 0;
+    cache.clean_line(l);
     written_back(cache, clears, l)
 }
 
 // The tenth and last clock of the refill of line l with block b.
-pub fn end_refill(
-    cache: &mut Cache,
-    store: &[u32],
-    b: u64,
-    l: usize,
-) -> Motion
+pub fn end_refill(cache: &mut Cache, store: &[u32], b: u64, l: usize) -> Motion
     requires { (l < 16) × (b < 65536) × (b * 8 + 8 ≤ length store.now) }
-    ensures { ((c : Scalars) → moved c result.running
-        cache.new store.now result.refilled
-        result.written
-        ≡ filling paper_geometry b l 9 c
-        cache.old store.now)
+    ensures { ((c : Scalars) → moved c result.running cache.new store.now result.refilled result.written
+        ≡ filling paper_geometry b l 9 c cache.old store.now)
         × (result.refilled ≤ 1) × (result.written ≤ 1) }
 {
     cache.fill_word(store, l, b, 9);
@@ -104,15 +82,10 @@ pub fn end_refill(
 }
 
 // The tag-check clock of a miss: a dirty line is written back first, any other line is emptied now.
-pub fn miss(
-    cache: &mut Cache,
-    l: usize,
-) -> Motion
+pub fn miss(cache: &mut Cache, l: usize) -> Motion
     requires { l < 16 }
-    ensures { ((c : Scalars) (s : List ℕ) → moved c result.running
-        cache.new s result.refilled result.written
-        ≡ missing paper_geometry l c
-        cache.old s)
+    ensures { ((c : Scalars) (s : List ℕ) → moved c result.running cache.new s result.refilled result.written
+        ≡ missing paper_geometry l c cache.old s)
         × (result.refilled ≤ 1) × (result.written ≤ 1) }
 {
     if cache.line_dirty(l) {
@@ -132,8 +105,7 @@ pub fn line_of_burst(
     clears: bool,
 ) -> usize
     requires { (store_length_ok n ≡ true) × (clears ≡ turns_cache_off w (gathered c regs.now)) }
-    ensures { (result ≡ write_line paper_geometry w n (gathered c regs.now)
-        cache.now) × (result < 16) }
+    ensures { (result ≡ write_line paper_geometry w n (gathered c regs.now) cache.now) × (result < 16) }
 {
     if clears {
         let d = cache.dirty_lines();

@@ -27,9 +27,7 @@ pub fn first_arithmetic(
 ) -> Clocked
     requires { (Good w (length store.old) c regs.old cache.old)
         × (c.running.phase ≡ 0) × (8 ≤ operation w) × (operation w < 11) }
-    ensures { Works w c input
-        regs.old cache.old store.old
-        result regs.new cache.new store.new }
+    ensures { Works w c input regs.old cache.old store.old result regs.new cache.new store.new }
 {
     if w / 0x4000 % 16 == 10 {
         return outcome::carried(execute::rotate(c, regs, w));
@@ -48,9 +46,7 @@ pub fn first_control(
 ) -> Clocked
     requires { (Good w (length store.old) c regs.old cache.old)
         × (c.running.phase ≡ 0) × (operation w ≡ 11) }
-    ensures { Works w c input
-        regs.old cache.old store.old
-        result regs.new cache.new store.new }
+    ensures { Works w c input regs.old cache.old store.old result regs.new cache.new store.new }
 {
     if w / 1024 % 2 == 1 {
         return outcome::enters(c, 5, 0);
@@ -77,9 +73,7 @@ pub fn first_store(
 ) -> Clocked
     requires { (Good w (length store.old) c regs.old cache.old)
         × (c.running.phase ≡ 0) × (operation w ≡ 13) }
-    ensures { Works w c input
-        regs.old cache.old store.old
-        result regs.new cache.new store.new }
+    ensures { Works w c input regs.old cache.old store.old result regs.new cache.new store.new }
 {
     let place = operands::place_of_word(c, regs, w, store.len() as u64);
     match place {

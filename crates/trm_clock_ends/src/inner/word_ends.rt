@@ -25,9 +25,7 @@ fn last_control(
 ) -> Clocked
     requires { (Good w (length store.old) c regs.old cache.old)
         × (Late w (length store.old) c regs.old) × (operation w ≡ 11) }
-    ensures { WorksLast w c input
-        regs.old cache.old store.old
-        result regs.new cache.new store.new }
+    ensures { WorksLast w c input regs.old cache.old store.old result regs.new cache.new store.new }
 {
     if w / 1024 % 2 == 1 {
         return outcome::carried(execute::jump(c, regs, w));
@@ -47,9 +45,7 @@ fn last_load(
 ) -> Clocked
     requires { (Good w (length store.old) c regs.old cache.old)
         × (Late w (length store.old) c regs.old) × (operation w ≡ 12) }
-    ensures { WorksLast w c input
-        regs.old cache.old store.old
-        result regs.new cache.new store.new }
+    ensures { WorksLast w c input regs.old cache.old store.old result regs.new cache.new store.new }
 {
     let place = operands::place_of_word(c, regs, w, store.len() as u64);
     match place {
@@ -80,9 +76,7 @@ fn last_store(
 ) -> Clocked
     requires { (Good w (length store.old) c regs.old cache.old)
         × (Late w (length store.old) c regs.old) × (operation w ≡ 13) }
-    ensures { WorksLast w c input
-        regs.old cache.old store.old
-        result regs.new cache.new store.new }
+    ensures { WorksLast w c input regs.old cache.old store.old result regs.new cache.new store.new }
 {
     let a = operands::target_of(c, regs, w, store.len() as u64) as usize;
     let x = operands::stored_word(c, regs, w);
@@ -101,9 +95,7 @@ pub fn last_clock(
 ) -> Clocked
     requires { (Good w (length store.old) c regs.old cache.old)
         × (Late w (length store.old) c regs.old) }
-    ensures { WorksLast w c input
-        regs.old cache.old store.old
-        result regs.new cache.new store.new }
+    ensures { WorksLast w c input regs.old cache.old store.old result regs.new cache.new store.new }
 {
     let op = w / 0x4000 % 16;
     match op {

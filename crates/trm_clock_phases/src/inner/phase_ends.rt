@@ -26,9 +26,7 @@ pub fn end_steps(
 ) -> Clocked
     requires { (Good w (length store.old) c regs.old cache.old)
         × (c.running.phase ≡ 1) × (c.running.count + 1 ≡ charge_of (operation w)) }
-    ensures { Works w c input
-        regs.old cache.old store.old
-        result regs.new cache.new store.new }
+    ensures { Works w c input regs.old cache.old store.old result regs.new cache.new store.new }
 {
     outcome::carried(execute::long(c, regs, w))
 }
@@ -44,19 +42,10 @@ pub fn end_write(
 ) -> Clocked
     requires { (Good w (length store.old) c regs.old cache.old)
         × (c.running.phase ≡ 2) × (c.running.count ≡ 9) }
-    ensures { Works w c input
-        regs.old cache.old store.old
-        result regs.new cache.new store.new }
+    ensures { Works w c input regs.old cache.old store.old result regs.new cache.new store.new }
 {
     let clears = operands::turns_cache_off(c, regs, w);
-    let l = burst_clock::line_of_burst(
-        c,
-        regs,
-        cache,
-        w,
-        store.len() as u64,
-        clears,
-    );
+    let l = burst_clock::line_of_burst(c, regs, cache, w, store.len() as u64, clears);
     let m = burst_clock::end_write_back(cache, store, clears, l);
     let running = m.running;
     outcome::goes_on(c, running, m.refilled, m.written)
@@ -73,9 +62,7 @@ pub fn end_fill(
 ) -> Clocked
     requires { (Good w (length store.old) c regs.old cache.old)
         × (c.running.phase ≡ 3) × (c.running.count ≡ 9) }
-    ensures { Works w c input
-        regs.old cache.old store.old
-        result regs.new cache.new store.new }
+    ensures { Works w c input regs.old cache.old store.old result regs.new cache.new store.new }
 {
     let b = operands::target_of(c, regs, w, store.len() as u64) / 8;
     let m = burst_clock::end_refill(cache, store, b, (b % 16) as usize);
@@ -94,9 +81,7 @@ pub fn end_wait(
 ) -> Clocked
     requires { (Good w (length store.old) c regs.old cache.old)
         × (c.running.phase ≡ 4) × (c.running.count + 1 ≡ charge_of (operation w) + 4) }
-    ensures { Works w c input
-        regs.old cache.old store.old
-        result regs.new cache.new store.new }
+    ensures { Works w c input regs.old cache.old store.old result regs.new cache.new store.new }
 {
     let a = operands::target_of(c, regs, w, store.len() as u64) as usize;
     if operands::is_store(w) {

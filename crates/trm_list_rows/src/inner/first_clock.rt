@@ -29,9 +29,7 @@ fn first_load(
 ) -> Clocked
     requires { (Good w (length store.old) c regs.old cache.old)
         × (c.running.phase ≡ 0) × (operation w ≡ 12) }
-    ensures { Works w c input
-        regs.old cache.old store.old
-        result regs.new cache.new store.new }
+    ensures { Works w c input regs.old cache.old store.old result regs.new cache.new store.new }
 {
     let place = operands::place_of_word(c, regs, w, store.len() as u64);
     match place {
@@ -63,9 +61,7 @@ fn first_branch(
 ) -> Clocked
     requires { (Good w (length store.old) c regs.old cache.old)
         × (c.running.phase ≡ 0) × (operation w ≡ 14) }
-    ensures { Works w c input
-        regs.old cache.old store.old
-        result regs.new cache.new store.new }
+    ensures { Works w c input regs.old cache.old store.old result regs.new cache.new store.new }
 {
     if operands::branch_taken(c, regs, w) {
         return outcome::enters(c, 5, 0);
@@ -85,9 +81,7 @@ fn first_arithmetic(
 ) -> Clocked
     requires { (Good w (length store.old) c regs.old cache.old)
         × (c.running.phase ≡ 0) × (operation w < 11) × (base.now ≡ charges) }
-    ensures { Works w c input
-        regs.old cache.old store.old
-        result regs.new cache.new store.new }
+    ensures { Works w c input regs.old cache.old store.old result regs.new cache.new store.new }
 {
     if base[(w / 0x4000 % 16) as usize] == 1 {
         return outcome::carried(execute::short(c, regs, w));
@@ -107,9 +101,7 @@ pub fn first_clock(
 ) -> Clocked
     requires { (Good w (length store.old) c regs.old cache.old)
         × (c.running.phase ≡ 0) × (base.now ≡ charges) }
-    ensures { Works w c input
-        regs.old cache.old store.old
-        result regs.new cache.new store.new }
+    ensures { Works w c input regs.old cache.old store.old result regs.new cache.new store.new }
 {
     let op = w / 0x4000 % 16;
     match op {

@@ -27,11 +27,7 @@ pub fn flight_ahead(
 ) -> Going
     requires { Under pins.now w (point g regs.now cache.old store.old)
         × (base.now ≡ charges) × (g.scalars.running.phase ≢ 0) × (g.scalars.running.phase ≢ 5) }
-    ensures { Quietly pins.now w
-        (point g regs.now cache.old
-        store.old)
-        (point result regs.now cache.new
-        store.new)
+    ensures { Quietly pins.now w (point g regs.now cache.old store.old) (point result regs.now cache.new store.new)
         × (result.scalars.pc ≡ g.scalars.pc) × (result.scalars.running.phase ≡ g.scalars.running.phase) × (result.finished ≡ g.finished)
         × (result.at < length pins.now → Ends w result.scalars.running) }
 {
@@ -55,9 +51,7 @@ pub fn flight_end(
 ) -> Clocked
     requires { (Good w (length store.old) c regs.old cache.old)
         × (c.running.phase ≢ 0) × Ends w c.running }
-    ensures { Works w c input
-        regs.old cache.old store.old
-        result regs.new cache.new store.new }
+    ensures { Works w c input regs.old cache.old store.old result regs.new cache.new store.new }
 {
     let phase = c.running.phase;
     match phase {

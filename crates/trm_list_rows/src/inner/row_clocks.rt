@@ -41,10 +41,7 @@ fn gone_ahead(
         l.took l.left (record { line_byte = pins; input = input })
         × (stalled pins ≡ false) × (l.scalars.running.phase ≢ 0) × (base.now ≡ charges) × (m ≤ l.left) × (m ≤ 64) }
     ensures { ((b : List ℕ) → l.len ≤ length b → Onward program.now (record { line_byte = pins; input = input })
-        l (lent_of l regs.now cache.old
-        store.old) b
-        result (lent_of result regs.now cache.new
-        store.new) b)
+        l (lent_of l regs.now cache.old store.old) b result (lent_of result regs.now cache.new store.new) b)
         × (result.scalars.pc ≡ l.scalars.pc) × (result.scalars.running.phase ≢ 0) × (result.len ≡ l.len) × (result.left ≤ l.left)
         × (l.left ≤ result.left + m)
         × (l.left < result.left + m → Ends (word_at program.now l.scalars.pc) result.scalars.running) }
@@ -95,9 +92,7 @@ fn goes_on(
         × (0 < l.left) × (l.len + 32 ≤ length buf.old) × (stalled pins ≡ false)
         × (l.scalars.running.phase ≢ 0) × (base.now ≡ charges) }
     ensures { Onward program.now (record { line_byte = pins; input = input })
-        l (lent_of l regs.old cache.old
-        store.old) buf.old
-        result (lent_of result regs.new cache.new
+        l (lent_of l regs.old cache.old store.old) buf.old result (lent_of result regs.new cache.new
         store.new) buf.new × (result.left < l.left) }
 {
     let m = least(l.left, 64); // more clocks than a phase has
@@ -130,9 +125,7 @@ fn begins(
         × (0 < l.left) × (l.len + 32 ≤ length buf.old) × (stalled pins ≡ false)
         × (l.scalars.running.phase ≡ 0) × (interrupt_chosen l.scalars.status pins ≡ 0) × (base.now ≡ charges) }
     ensures { Onward program.now (record { line_byte = pins; input = input })
-        l (lent_of l regs.old cache.old
-        store.old) buf.old
-        result (lent_of result regs.new cache.new
+        l (lent_of l regs.old cache.old store.old) buf.old result (lent_of result regs.new cache.new
         store.new) buf.new × (result.left < l.left) }
 {
     let w = operands::word_at(program, l.scalars.pc);
@@ -159,9 +152,7 @@ fn interrupts(
         × (0 < l.left) × (l.len + 32 ≤ length buf.old) × (stalled pins ≡ false)
         × (l.scalars.running.phase ≡ 0) × (to ≡ interrupt_chosen l.scalars.status pins) × (to ≢ 0) }
     ensures { Onward program.now (record { line_byte = pins; input = input })
-        l (lent_of l regs.old cache.now
-        store.now) buf.old
-        result (lent_of result regs.new cache.now
+        l (lent_of l regs.old cache.now store.now) buf.old result (lent_of result regs.new cache.now
         store.now) buf.new × (result.left < l.left) }
 {
     let c = interrupt::take_interrupt(l.scalars, regs, to);
@@ -184,9 +175,7 @@ fn one_turn(
         l.took l.left (record { line_byte = pins; input = input })
         × (0 < l.left) × (l.len + 32 ≤ length buf.old) × (stalled pins ≡ false) × (base.now ≡ charges) }
     ensures { Onward program.now (record { line_byte = pins; input = input })
-        l (lent_of l regs.old cache.old
-        store.old) buf.old
-        result (lent_of result regs.new cache.new
+        l (lent_of l regs.old cache.old store.old) buf.old result (lent_of result regs.new cache.new
         store.new) buf.new × (result.left < l.left) }
 {
     if l.scalars.running.phase != 0 {
@@ -221,10 +210,7 @@ pub fn list_clocks(
         l.took l.left (record { line_byte = pins; input = input })
         × (l.len ≤ length buf.old) × (stalled pins ≡ false) × (base.now ≡ charges) }
     ensures { Onward program.now (record { line_byte = pins; input = input })
-        l (lent_of l regs.old cache.old
-        store.old) buf.old
-        result (lent_of result regs.new cache.new
-        store.new) buf.new
+        l (lent_of l regs.old cache.old store.old) buf.old result (lent_of result regs.new cache.new store.new) buf.new
         × (result.left ≢ 0 → length buf.old < result.len + 32) }
 {
     let mut g = l;

@@ -29,17 +29,11 @@ fn step_turn(
     outs: &mut [u32],
     base: &[u64; 16],
 ) -> Going
-    requires { At program.now pins.now inputs.now (point g regs.old cache.old
-        store.old) bytes.old outs.old
+    requires { At program.now pins.now inputs.now (point g regs.old cache.old store.old) bytes.old outs.old
         × (w ≡ word_at program.now g.scalars.pc) × (g.scalars.running.phase ≡ 1)
         × (g.at < length pins.now) × (stalled (get_or pins.now g.at 0) ≡ false) × (base.now ≡ charges) }
-    ensures { Turned program.now pins.now inputs.now
-        (point g regs.old cache.old
-        store.old)
-        bytes.old outs.old
-        (point result regs.new cache.new
-        store.new)
-        bytes.new outs.new × (g.at < result.at) × (bytes.new ≡ bytes.old) }
+    ensures { Turned program.now pins.now inputs.now (point g regs.old cache.old store.old) bytes.old outs.old
+        (point result regs.new cache.new store.new) bytes.new outs.new × (g.at < result.at) × (bytes.new ≡ bytes.old) }
 {
     let h = step_clocks::steps_ahead(g, regs, cache, store, w, pins, base);
     let at = h.at;
@@ -65,17 +59,11 @@ fn write_turn(
     bytes: &mut [u8],
     outs: &mut [u32],
 ) -> Going
-    requires { At program.now pins.now inputs.now (point g regs.old cache.old
-        store.old) bytes.old outs.old
+    requires { At program.now pins.now inputs.now (point g regs.old cache.old store.old) bytes.old outs.old
         × (w ≡ word_at program.now g.scalars.pc) × (g.scalars.running.phase ≡ 2)
         × (g.at < length pins.now) × (stalled (get_or pins.now g.at 0) ≡ false) }
-    ensures { Turned program.now pins.now inputs.now
-        (point g regs.old cache.old
-        store.old)
-        bytes.old outs.old
-        (point result regs.new cache.new
-        store.new)
-        bytes.new outs.new × (g.at < result.at) × (bytes.new ≡ bytes.old) }
+    ensures { Turned program.now pins.now inputs.now (point g regs.old cache.old store.old) bytes.old outs.old
+        (point result regs.new cache.new store.new) bytes.new outs.new × (g.at < result.at) × (bytes.new ≡ bytes.old) }
 {
     let h = phase_clocks::write_ahead(g, regs, cache, store, w, pins);
     let at = h.at;
@@ -101,17 +89,11 @@ fn fill_turn(
     bytes: &mut [u8],
     outs: &mut [u32],
 ) -> Going
-    requires { At program.now pins.now inputs.now (point g regs.old cache.old
-        store.old) bytes.old outs.old
+    requires { At program.now pins.now inputs.now (point g regs.old cache.old store.old) bytes.old outs.old
         × (w ≡ word_at program.now g.scalars.pc) × (g.scalars.running.phase ≡ 3)
         × (g.at < length pins.now) × (stalled (get_or pins.now g.at 0) ≡ false) }
-    ensures { Turned program.now pins.now inputs.now
-        (point g regs.old cache.old
-        store.old)
-        bytes.old outs.old
-        (point result regs.new cache.new
-        store.new)
-        bytes.new outs.new × (g.at < result.at) × (bytes.new ≡ bytes.old) }
+    ensures { Turned program.now pins.now inputs.now (point g regs.old cache.old store.old) bytes.old outs.old
+        (point result regs.new cache.new store.new) bytes.new outs.new × (g.at < result.at) × (bytes.new ≡ bytes.old) }
 {
     let h = phase_clocks::fill_ahead(g, regs, cache, store, w, pins);
     let at = h.at;
@@ -138,17 +120,11 @@ fn wait_turn(
     outs: &mut [u32],
     base: &[u64; 16],
 ) -> Going
-    requires { At program.now pins.now inputs.now (point g regs.old cache.old
-        store.old) bytes.old outs.old
+    requires { At program.now pins.now inputs.now (point g regs.old cache.old store.old) bytes.old outs.old
         × (w ≡ word_at program.now g.scalars.pc) × (g.scalars.running.phase ≡ 4)
         × (g.at < length pins.now) × (stalled (get_or pins.now g.at 0) ≡ false) × (base.now ≡ charges) }
-    ensures { Turned program.now pins.now inputs.now
-        (point g regs.old cache.old
-        store.old)
-        bytes.old outs.old
-        (point result regs.new cache.new
-        store.new)
-        bytes.new outs.new × (g.at < result.at) × (bytes.new ≡ bytes.old) }
+    ensures { Turned program.now pins.now inputs.now (point g regs.old cache.old store.old) bytes.old outs.old
+        (point result regs.new cache.new store.new) bytes.new outs.new × (g.at < result.at) × (bytes.new ≡ bytes.old) }
 {
     let h = phase_clocks::wait_ahead(g, regs, cache, store, w, pins, base);
     let at = h.at;
@@ -185,19 +161,13 @@ fn last_turn(
     outs: &mut [u32],
     stops: bool,
 ) -> Going
-    requires { At program.now pins.now inputs.now (point g regs.old cache.old
-        store.old) bytes.old outs.old
+    requires { At program.now pins.now inputs.now (point g regs.old cache.old store.old) bytes.old outs.old
         × (w ≡ word_at program.now g.scalars.pc)
         × (g.at < length pins.now) × (stalled (get_or pins.now g.at 0) ≡ false)
         × (g.scalars.running.phase ≢ 0) × (g.scalars.running.phase ≢ 1) × (g.scalars.running.phase ≢ 2)
         × (g.scalars.running.phase ≢ 3) × (g.scalars.running.phase ≢ 4) }
-    ensures { Turned program.now pins.now inputs.now
-        (point g regs.old cache.old
-        store.old)
-        bytes.old outs.old
-        (point result regs.new cache.new
-        store.new)
-        bytes.new outs.new × Did stops g.at result.at bytes.old bytes.new }
+    ensures { Turned program.now pins.now inputs.now (point g regs.old cache.old store.old) bytes.old outs.old
+        (point result regs.new cache.new store.new) bytes.new outs.new × Did stops g.at result.at bytes.old bytes.new }
 {
     if load_waits(stops, w) {
         return g;
@@ -224,17 +194,11 @@ pub fn flight_turn(
     base: &[u64; 16],
     stops: bool,
 ) -> Going
-    requires { At program.now pins.now inputs.now (point g regs.old cache.old
-        store.old) bytes.old outs.old
+    requires { At program.now pins.now inputs.now (point g regs.old cache.old store.old) bytes.old outs.old
         × (w ≡ word_at program.now g.scalars.pc) × (base.now ≡ charges)
         × (g.at < length pins.now) × (stalled (get_or pins.now g.at 0) ≡ false) × (g.scalars.running.phase ≢ 0) }
-    ensures { Turned program.now pins.now inputs.now
-        (point g regs.old cache.old
-        store.old)
-        bytes.old outs.old
-        (point result regs.new cache.new
-        store.new)
-        bytes.new outs.new × Did stops g.at result.at bytes.old bytes.new }
+    ensures { Turned program.now pins.now inputs.now (point g regs.old cache.old store.old) bytes.old outs.old
+        (point result regs.new cache.new store.new) bytes.new outs.new × Did stops g.at result.at bytes.old bytes.new }
 {
     let phase = g.scalars.running.phase;
     match phase {

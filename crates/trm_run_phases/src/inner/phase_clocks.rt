@@ -28,10 +28,7 @@ pub fn held_ahead(
 ) -> Going
     requires { Stands pins.now (point g regs.now cache.now store.now)
         × (g.at < length pins.now) × (stalled (get_or pins.now g.at 0) ≡ true) }
-    ensures { ((w : ℕ) → Quietly pins.now w
-        (point g regs.now cache.now
-        store.now)
-        (point result regs.now cache.now
+    ensures { ((w : ℕ) → Quietly pins.now w (point g regs.now cache.now store.now) (point result regs.now cache.now
         store.now)) × (g.at < result.at) }
 {
     let mut c = g.scalars;
@@ -65,10 +62,7 @@ fn fill_clock(
 ) -> Scalars
     requires { (counts_ok c.counts ≡ true) × (l < 16) × (c.running.count < 10) × (b < 65536) × (b * 8 + 8 ≤ length store.now) }
     ensures { (result ≡ cond (stalled pins) (waited c) (advanced c (in_phase 3 (c.running.count + 1)) 0 0))
-        × (cache.new
-        ≡ cond (stalled pins) cache.old
-        (fill_word paper_geometry cache.old
-        l store.now b c.running.count)) }
+        × (cache.new ≡ cond (stalled pins) cache.old (fill_word paper_geometry cache.old l store.now b c.running.count)) }
 {
     if interrupt::is_stalled(pins) {
         return scalars::hold(c);
@@ -89,11 +83,7 @@ pub fn fill_ahead(
 ) -> Going
     requires { Under pins.now w (point g regs.now cache.old store.now)
         × (g.scalars.running.phase ≡ 3) }
-    ensures { Quietly pins.now w
-        (point g regs.now cache.old
-        store.now)
-        (point result regs.now cache.new
-        store.now)
+    ensures { Quietly pins.now w (point g regs.now cache.old store.now) (point result regs.now cache.new store.now)
         × (result.scalars.pc ≡ g.scalars.pc) × (result.scalars.running.phase ≡ 3) × (g.at ≤ result.at) × (result.finished ≡ g.finished)
         × (result.at < length pins.now → result.scalars.running.count ≡ 9) }
 {
@@ -130,8 +120,7 @@ fn write_clock(
     requires { (counts_ok c.counts ≡ true) × (l < 16) × (c.running.count < 10)
         × ((line_at paper_geometry cache.now l).block * 8 + 8 ≤ length store.old) }
     ensures { (result ≡ cond (stalled pins) (waited c) (advanced c (in_phase 2 (c.running.count + 1)) 0 0))
-        × (store.new ≡ cond (stalled pins) store.old (write_word paper_geometry
-        (line_at paper_geometry cache.now l)
+        × (store.new ≡ cond (stalled pins) store.old (write_word paper_geometry (line_at paper_geometry cache.now l)
         store.old c.running.count)) }
 {
     if interrupt::is_stalled(pins) {
@@ -153,11 +142,7 @@ pub fn write_ahead(
 ) -> Going
     requires { Under pins.now w (point g regs.now cache.now store.old)
         × (g.scalars.running.phase ≡ 2) }
-    ensures { Quietly pins.now w
-        (point g regs.now cache.now
-        store.old)
-        (point result regs.now cache.now
-        store.new)
+    ensures { Quietly pins.now w (point g regs.now cache.now store.old) (point result regs.now cache.now store.new)
         × (result.scalars.pc ≡ g.scalars.pc) × (result.scalars.running.phase ≡ 2) × (g.at ≤ result.at) × (result.finished ≡ g.finished)
         × (result.at < length pins.now → result.scalars.running.count ≡ 9) }
 {
@@ -213,11 +198,7 @@ pub fn wait_ahead(
 ) -> Going
     requires { Under pins.now w (point g regs.now cache.now store.now)
         × (g.scalars.running.phase ≡ 4) × (base.now ≡ charges) }
-    ensures { Quietly pins.now w
-        (point g regs.now cache.now
-        store.now)
-        (point result regs.now cache.now
-        store.now)
+    ensures { Quietly pins.now w (point g regs.now cache.now store.now) (point result regs.now cache.now store.now)
         × (result.scalars.pc ≡ g.scalars.pc) × (result.scalars.running.phase ≡ 4) × (g.at ≤ result.at) × (result.finished ≡ g.finished)
         × (result.at < length pins.now → result.scalars.running.count + 1 ≡ charge_of (operation w) + 4) }
 {

@@ -99,11 +99,7 @@ pub fn steps_ahead(
 ) -> Going
     requires { Under pins.now w (point g regs.now cache.now store.now)
         × (g.scalars.running.phase ≡ 1) × (base.now ≡ charges) }
-    ensures { Quietly pins.now w
-        (point g regs.now cache.now
-        store.now)
-        (point result regs.now cache.now
-        store.now)
+    ensures { Quietly pins.now w (point g regs.now cache.now store.now) (point result regs.now cache.now store.now)
         × (result.scalars.pc ≡ g.scalars.pc) × (result.scalars.running.phase ≡ 1) × (g.at ≤ result.at) × (result.finished ≡ g.finished)
         × (result.at < length pins.now → result.scalars.running.count + 1 ≡ charge_of (operation w)) }
 {

@@ -46,11 +46,7 @@ fn branch(
 ) -> Going
     requires { Under pins.now w (point g regs.now cache.now store.now)
         × Begins pins.now g × (operation w ≡ 14) }
-    ensures { Quietly pins.now w
-        (point g regs.now cache.now
-        store.now)
-        (point result regs.now cache.now
-        store.now)
+    ensures { Quietly pins.now w (point g regs.now cache.now store.now) (point result regs.now cache.now store.now)
         × (g.at < result.at) }
 {
     let c = g.scalars;
@@ -79,17 +75,11 @@ fn load(
     outs: &mut [u32],
     stops: bool,
 ) -> Going
-    requires { At program.now pins.now inputs.now (point g regs.old cache.old
-        store.old) bytes.old outs.old
+    requires { At program.now pins.now inputs.now (point g regs.old cache.old store.old) bytes.old outs.old
         × (w ≡ word_at program.now g.scalars.pc)
         × Begins pins.now g × (operation w ≡ 12) }
-    ensures { Turned program.now pins.now inputs.now
-        (point g regs.old cache.old
-        store.old)
-        bytes.old outs.old
-        (point result regs.new cache.new
-        store.new)
-        bytes.new outs.new × Did stops g.at result.at bytes.old bytes.new }
+    ensures { Turned program.now pins.now inputs.now (point g regs.old cache.old store.old) bytes.old outs.old
+        (point result regs.new cache.new store.new) bytes.new outs.new × Did stops g.at result.at bytes.old bytes.new }
 {
     let c = g.scalars;
     let place = operands::place_of_word(c, regs, w, store.len() as u64);
@@ -160,17 +150,11 @@ fn begin(
     outs: &mut [u32],
     stops: bool,
 ) -> Going
-    requires { At program.now pins.now inputs.now (point g regs.old cache.old
-        store.old) bytes.old outs.old
+    requires { At program.now pins.now inputs.now (point g regs.old cache.old store.old) bytes.old outs.old
         × (w ≡ word_at program.now g.scalars.pc)
         × Begins pins.now g × (8 ≤ operation w) }
-    ensures { Turned program.now pins.now inputs.now
-        (point g regs.old cache.old
-        store.old)
-        bytes.old outs.old
-        (point result regs.new cache.new
-        store.new)
-        bytes.new outs.new × Did stops g.at result.at bytes.old bytes.new }
+    ensures { Turned program.now pins.now inputs.now (point g regs.old cache.old store.old) bytes.old outs.old
+        (point result regs.new cache.new store.new) bytes.new outs.new × Did stops g.at result.at bytes.old bytes.new }
 {
     let at = g.at;
     let op = w / 0x4000 % 16;
@@ -248,13 +232,8 @@ pub fn ready_turn(
 ) -> Going
     requires { At program.now pins.now inputs.now (point g regs.old cache.old
         store.old) bytes.old outs.old × Begins pins.now g }
-    ensures { Turned program.now pins.now inputs.now
-        (point g regs.old cache.old
-        store.old)
-        bytes.old outs.old
-        (point result regs.new cache.new
-        store.new)
-        bytes.new outs.new × Did stops g.at result.at bytes.old bytes.new }
+    ensures { Turned program.now pins.now inputs.now (point g regs.old cache.old store.old) bytes.old outs.old
+        (point result regs.new cache.new store.new) bytes.new outs.new × Did stops g.at result.at bytes.old bytes.new }
 {
     let mut h = at_rest(g);
     while h.at < pins.len() {

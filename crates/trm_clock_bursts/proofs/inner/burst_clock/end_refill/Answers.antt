@@ -6,7 +6,7 @@ use Rattle.trm_clock_bursts.proofs.inner.burst_clock.end_refill.Goals as goal
 pub returns : goal.returns
 unfolding filling burst
 returns c = let e = c.fill_line.ensures in (
-  λ k. rw (c.moves.ensures, ← c.fill_word.ensures, e.0, e.1, e.2),
+  λ k. rw (c.moves.ensures, ← c.fill_word.ensures, e),
   rw c.moves.ensures (omega arith),
   rw c.moves.ensures (omega arith),
 )

@@ -33,7 +33,7 @@ returns-then-clears c = (
 pub returns : goal.returns
 unfolding written
 returns c = let e = c.empty_line.ensures in (
-  λ k s. rw (c.if-clears.false, c.moves-2.ensures, e.0, e.1, e.2),
+  λ k s. rw (c.if-clears.false, c.moves-2.ensures, e),
   rw c.moves-2.ensures (omega arith),
   rw c.moves-2.ensures (omega arith),
 )
