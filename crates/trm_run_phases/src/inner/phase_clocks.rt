@@ -19,21 +19,14 @@ use trm_clock_scalars::inner::{interrupt, scalars};
 use trm_core::record::Scalars;
 
 // Held clocks.
-pub fn held_ahead(
-    g: Going,
-    regs: &[u32; 16],
-    cache: &Cache,
-    store: &[u32],
-    pins: &[u8],
-) -> Going
+pub fn held_ahead(g: Going, regs: &[u32; 16], cache: &Cache, store: &[u32], pins: &[u8]) -> Going
     requires { Stands pins.now (point g regs.now cache.now store.now)
         × (g.at < length pins.now) × (stalled (get_or pins.now g.at 0) ≡ true) }
     ensures { ((w : ℕ) → Quietly pins.now w (point g regs.now cache.now store.now) (point result regs.now cache.now
         store.now)) × (g.at < result.at) }
 {
     let mut c = g.scalars;
-    let mut i = g.at;
-    while i < pins.len() {
+    for i in g.at..pins.len() {
         if !interrupt::is_stalled(pins[i]) {
             return Going {
                 scalars: c,
@@ -42,24 +35,16 @@ pub fn held_ahead(
             };
         }
         c = scalars::hold(c);
-        i += 1;
     }
     Going {
         scalars: c,
-        at: i,
+        at: pins.len(),
         finished: g.finished,
     }
 }
 
 // One clock of the refill of line l with block b: held, or a wait or a word, but not the last.
-fn fill_clock(
-    c: Scalars,
-    cache: &mut Cache,
-    store: &[u32],
-    b: u64,
-    l: usize,
-    pins: u8,
-) -> Scalars
+fn fill_clock(c: Scalars, cache: &mut Cache, store: &[u32], b: u64, l: usize, pins: u8) -> Scalars
     requires { (counts_ok c.counts ≡ true) × (l < 16) × (c.running.count < 10) × (b < 65536) × (b * 8 + 8 ≤ length store.now) }
     ensures { (result ≡ cond (stalled pins) (waited c) (advanced c (in_phase 3 (c.running.count + 1)) 0 0))
         × (cache.new ≡ cond (stalled pins) cache.old (fill_word paper_geometry cache.old l store.now b c.running.count)) }
@@ -90,8 +75,7 @@ pub fn fill_ahead(
     let b = operands::target_of(g.scalars, regs, w, store.len() as u64) / 8;
     let l = (b % 16) as usize;
     let mut c = g.scalars;
-    let mut i = g.at;
-    while i < pins.len() {
+    for i in g.at..pins.len() {
         if c.running.count == 9 {
             return Going {
                 scalars: c,
@@ -100,23 +84,16 @@ pub fn fill_ahead(
             };
         }
         c = fill_clock(c, cache, store, b, l, pins[i]);
-        i += 1;
     }
     Going {
         scalars: c,
-        at: i,
+        at: pins.len(),
         finished: g.finished,
     }
 }
 
 // One clock of the write-back of line l: held, or a wait or a word, but not the last.
-fn write_clock(
-    c: Scalars,
-    cache: &Cache,
-    store: &mut [u32],
-    l: usize,
-    pins: u8,
-) -> Scalars
+fn write_clock(c: Scalars, cache: &Cache, store: &mut [u32], l: usize, pins: u8) -> Scalars
     requires { (counts_ok c.counts ≡ true) × (l < 16) × (c.running.count < 10)
         × ((line_at paper_geometry cache.now l).block * 8 + 8 ≤ length store.old) }
     ensures { (result ≡ cond (stalled pins) (waited c) (advanced c (in_phase 2 (c.running.count + 1)) 0 0))
@@ -148,16 +125,8 @@ pub fn write_ahead(
 {
     let mut c = g.scalars;
     let clears = operands::turns_cache_off(c, regs, w);
-    let l = burst_clock::line_of_burst(
-        c,
-        regs,
-        cache,
-        w,
-        store.len() as u64,
-        clears,
-    );
-    let mut i = g.at;
-    while i < pins.len() {
+    let l = burst_clock::line_of_burst(c, regs, cache, w, store.len() as u64, clears);
+    for i in g.at..pins.len() {
         if c.running.count == 9 {
             return Going {
                 scalars: c,
@@ -166,11 +135,10 @@ pub fn write_ahead(
             };
         }
         c = write_clock(c, cache, store, l, pins[i]);
-        i += 1;
     }
     Going {
         scalars: c,
-        at: i,
+        at: pins.len(),
         finished: g.finished,
     }
 }
@@ -204,8 +172,7 @@ pub fn wait_ahead(
 {
     let all = base[(w / 0x4000 % 16) as usize] + 4;
     let mut c = g.scalars;
-    let mut i = g.at;
-    while i < pins.len() {
+    for i in g.at..pins.len() {
         if c.running.count + 1 == all {
             return Going {
                 scalars: c,
@@ -214,11 +181,10 @@ pub fn wait_ahead(
             };
         }
         c = wait_clock(c, pins[i]);
-        i += 1;
     }
     Going {
         scalars: c,
-        at: i,
+        at: pins.len(),
         finished: g.finished,
     }
 }

@@ -108,14 +108,12 @@ pub fn steps_ahead(
     let divisor = trm_alu::inner::pair::divisor(a);
     let last = base[(w / 0x4000 % 16) as usize] - 1; // the number of steps
     let mut u = packed_unit::pack(g.scalars.running, w);
-    let mut k: usize = 0;
     let left = pins.len() - g.at;
-    while k < left {
+    for k in 0..left {
         if u.count == last {
             return after_serial(g, u, w, k);
         }
         u = serial_clock(u, w, a, b, divisor, pins[g.at + k]);
-        k += 1;
     }
-    after_serial(g, u, w, k)
+    after_serial(g, u, w, left)
 }

@@ -1,7 +1,8 @@
 use Rattle.trm_run_phases.proofs.Laws.Ahead.{on_none, good-on, fill-block, fills, fill_on}
 use native.Mathlib.Omega.{arith}
 use native.Mathlib.Nat.{mod-lt}
-use mathlib.Core.Path.{refl, ap}
+use lib.ListN.{length}
+use mathlib.Core.Path.{◌≡◌, refl, ap}
 use Rattle.trm_reference.specs.Visible.{Visible}
 use Rattle.trm_core.proofs.Laws.Rows.{legal_of}
 use Rattle.trm_core.proofs.Laws.Fit.{legal_small}
@@ -39,13 +40,6 @@ fill_clock-c-requires c =
       f.inside,
     )
 
-pub overflow_add-i : goal.overflow_add-i
-overflow_add-i c =
-    omega (arith, c.loop-i-test.true, c.requires.0.so.feed.many)
-
-pub loop-i-smaller : goal.loop-i-smaller
-loop-i-smaller c = omega (arith, c.loop-i-test.true)
-
 pub loop-i-preserved : goal.loop-i-preserved
 loop-i-preserved c =
     let n = c.loop-i.invariant in
@@ -55,15 +49,6 @@ loop-i-preserved c =
 
 pub returns : goal.returns
 returns c =
-    let n = c.loop-i.invariant in (
-      n.quietly,
-      ap (λ (v : Visible). v.pc) n.seen,
-      n.phase,
-      n.onto,
-      refl,
-      λ more. absurd (omega (
-        arith,
-        more,
-        c.loop-i-test.false,
-      )),
-    )
+    let n = c.loop-i.invariant in
+    let e : length c.args.pins.now ≡ c.loop-i.i = omega (arith, c.loop-i-test.false, c.loop-i.auto.i-end c.requires.0.so.below) in
+    rw e (n.quietly, ap (λ (v : Visible). v.pc) n.seen, n.phase, n.onto, refl, λ more. absurd (omega (arith, more)))

@@ -1,7 +1,8 @@
 use Rattle.trm_run_phases.proofs.Laws.Ahead.{past-held}
 use Rattle.trm_run_phases.proofs.Laws.Ahead.{on_none, good-on, held_on}
 use native.Mathlib.Omega.{arith}
-use mathlib.Core.Path.{refl, sym, ◌∙◌}
+use lib.ListN.{length}
+use mathlib.Core.Path.{◌≡◌, refl, sym, ◌∙◌}
 use Rattle.trm_run_phases.proofs.inner.phase_clocks.held_ahead.Goals as goal
 
 pub loop-i-init : goal.loop-i-init
@@ -21,17 +22,6 @@ hold-c-requires c =
     let u = c.requires.0 in
     (good-on _ _ _ _ _ _ _ _ _ _ (c.loop-i.invariant u.word) u.under).counts
 
-pub overflow_add-i : goal.overflow_add-i
-overflow_add-i c =
-    omega (
-      arith,
-      c.loop-i-test.true,
-      c.requires.0.under.so.feed.many,
-    )
-
-pub loop-i-smaller : goal.loop-i-smaller
-loop-i-smaller c = omega (arith, c.loop-i-test.true)
-
 pub loop-i-preserved : goal.loop-i-preserved
 loop-i-preserved c =
     λ w. rw c.hold-c.ensures (held_on _ _ _ _ _ _ _ _ _ _ (c.loop-i.invariant w) c.loop-i-test.true
@@ -39,4 +29,5 @@ loop-i-preserved c =
 
 pub returns : goal.returns
 returns c =
-    (λ w. (c.loop-i.invariant w).quietly, omega (arith, c.requires.1, c.loop-i-test.false))
+    let e : length c.args.pins.now ≡ c.loop-i.i = omega (arith, c.loop-i-test.false, c.loop-i.auto.i-end c.requires.0.under.so.below) in
+    rw e (λ w. (c.loop-i.invariant w).quietly, omega (arith, c.requires.1, c.loop-i-test.false))

@@ -6,8 +6,8 @@ use Rattle.trm_word.specs.Fields.{operation}
 use Rattle.trm_reference.specs.Charge.{uncached_charge}
 use native.Mathlib.Omega.{arith}
 use Prim.Native.Nat.{◌+◌}
-use mathlib.Core.Path.{refl, sym, ap, ◌∙◌}
-use lib.ListN.{get_or}
+use mathlib.Core.Path.{◌≡◌, refl, sym, ap, ◌∙◌}
+use lib.ListN.{length, get_or}
 use Rattle.trm_reference.specs.Visible.{Visible}
 use Rattle.trm_run_phases.proofs.inner.phase_clocks.wait_ahead.Goals as goal
 
@@ -61,15 +61,6 @@ wait_clock-c-requires c =
           0 + 4) c.requires.2)))).1,
     )
 
-pub overflow_add-i : goal.overflow_add-i
-unfolding uncached_charge
-overflow_add-i c =
-    omega (arith, c.loop-i-test.true, c.requires.0.so.feed.many)
-
-pub loop-i-smaller : goal.loop-i-smaller
-unfolding uncached_charge
-loop-i-smaller c = omega (arith, c.loop-i-test.true)
-
 pub loop-i-preserved : goal.loop-i-preserved
 unfolding uncached_charge
 loop-i-preserved c =
@@ -81,15 +72,6 @@ loop-i-preserved c =
 pub returns : goal.returns
 unfolding uncached_charge
 returns c =
-    let n = c.loop-i.invariant in (
-      n.quietly,
-      ap (λ (v : Visible). v.pc) n.seen,
-      n.phase,
-      n.onto,
-      refl,
-      λ more. absurd (omega (
-        arith,
-        more,
-        c.loop-i-test.false,
-      )),
-    )
+    let n = c.loop-i.invariant in
+    let e : length c.args.pins.now ≡ c.loop-i.i = omega (arith, c.loop-i-test.false, c.loop-i.auto.i-end c.requires.0.so.below) in
+    rw e (n.quietly, ap (λ (v : Visible). v.pc) n.seen, n.phase, n.onto, refl, λ more. absurd (omega (arith, more)))

@@ -1,7 +1,8 @@
 use Rattle.trm_run_phases.proofs.Laws.Ahead.{long-on}
 use Rattle.trm_run_phases.proofs.Laws.Ahead.{on_none, good-on, clears_on, line_on, writes, write-on}
 use native.Mathlib.Omega.{arith}
-use mathlib.Core.Path.{refl, ap}
+use lib.ListN.{length}
+use mathlib.Core.Path.{◌≡◌, refl, ap}
 use Rattle.trm_reference.specs.Visible.{Visible}
 use Rattle.trm_core.proofs.Laws.Rows.{legal_of}
 use Rattle.trm_run_phases.proofs.inner.phase_clocks.write_ahead.Goals as goal
@@ -32,17 +33,6 @@ write_clock-c-requires c =
     (line_on _ _ _ _ _ _ _ _ _ u n _ c.line_of_burst-l.ensures.0) in
     ((good-on _ _ _ _ _ _ _ _ _ _ n u).counts, f.line, f.few, f.inside)
 
-pub overflow_add-i : goal.overflow_add-i
-overflow_add-i c =
-    omega (
-      arith,
-      c.loop-i-test.true,
-      c.requires.0.so.feed.many,
-    )
-
-pub loop-i-smaller : goal.loop-i-smaller
-loop-i-smaller c = omega (arith, c.loop-i-test.true)
-
 pub loop-i-preserved : goal.loop-i-preserved
 loop-i-preserved c =
     let n = c.loop-i.invariant in
@@ -57,15 +47,6 @@ shape_of-store c =
 
 pub returns : goal.returns
 returns c =
-    let n = c.loop-i.invariant in (
-      n.quietly,
-      ap (λ (v : Visible). v.pc) n.seen,
-      n.phase,
-      n.onto,
-      refl,
-      λ more. absurd (omega (
-        arith,
-        more,
-        c.loop-i-test.false,
-      )),
-    )
+    let n = c.loop-i.invariant in
+    let e : length c.args.pins.now ≡ c.loop-i.i = omega (arith, c.loop-i-test.false, c.loop-i.auto.i-end c.requires.0.so.below) in
+    rw e (n.quietly, ap (λ (v : Visible). v.pc) n.seen, n.phase, n.onto, refl, λ more. absurd (omega (arith, more)))

@@ -1,8 +1,9 @@
 use Rattle.trm_run_phases.proofs.Laws.Serial.{stepped-begins, stepped-on, serves, packed, serial_room}
 use Rattle.trm_clock_laws.proofs.Laws.Facts.{charge-some}
 use native.Mathlib.Omega.{arith}
-use mathlib.Core.Path.{refl, ap}
-use lib.ListN.{get_or}
+use Prim.Native.Nat.{◌-◌}
+use mathlib.Core.Path.{◌≡◌, refl, ap}
+use lib.ListN.{length, get_or}
 use Rattle.trm_word.specs.Fields.{operation}
 use Rattle.trm_reference.specs.Visible.{Visible}
 use Rattle.trm_run_phases.proofs.inner.step_clocks.steps_ahead.Goals as goal
@@ -88,17 +89,6 @@ serial_clock-u-requires c = (
   c.divisor-divisor.ensures,
 )
 
-pub overflow_add-k : goal.overflow_add-k
-overflow_add-k c =
-    omega (
-      arith,
-      c.loop-k.invariant.1,
-      c.requires.0.so.feed.many,
-    )
-
-pub loop-k-smaller : goal.loop-k-smaller
-loop-k-smaller c = omega (arith, c.loop-k-test.true)
-
 pub loop-k-preserved : goal.loop-k-preserved
 loop-k-preserved c = (
   stepped-on _ _ _ _ _ _ _ _ _ c.requires.0 c.loop-k.invariant.0 (omega
@@ -116,23 +106,25 @@ loop-k-preserved c = (
   ),
 )
 
+-- the loop ended: k is the number of clocks left
 pub after_serial-requires-2 : goal.after_serial-requires-2
 after_serial-requires-2 c =
     let n = c.loop-k.invariant.0 in
-    let r = serial_room _ _ _ _ _ _ _ _ c.requires.0
-    n.0
-    in
-    (r.0, r.1, r.2, n.1, n.2)
+    let r = serial_room _ _ _ _ _ _ _ _ c.requires.0 n.0 in
+    let e : length c.args.pins.now - c.args.g.at ≡ c.loop-k.k =
+    omega (arith, c.loop-k-test.false, c.loop-k.auto.k-end, c.loop-k.invariant.1, c.requires.0.so.below) in
+    rw e (r.0, r.1, r.2, n.1, n.2)
 
 pub returns : goal.returns
 returns c =
     let n = c.loop-k.invariant.0.0 in
-    rw c.after_serial-2.ensures (
+    let e : length c.args.pins.now - c.args.g.at ≡ c.loop-k.k =
+    omega (arith, c.loop-k-test.false, c.loop-k.auto.k-end, c.loop-k.invariant.1, c.requires.0.so.below) in
+    rw (c.after_serial-2.ensures, e) (
       n.quietly,
       ap (λ (v : Visible). v.pc) n.seen,
       n.phase,
       n.onto,
       refl,
-      λ more. absurd
-          (omega (arith, more, c.loop-k-test.false)),
+      λ more. absurd (omega (arith, more, c.loop-k-test.false, c.requires.0.so.below)),
     )
