@@ -40,9 +40,7 @@ fn step_turn(
     if !going::due(pins, at) {
         return h;
     }
-    let r = phase_ends::end_steps(
-        h.scalars, regs, cache, store, w, inputs[at],
-    );
+    let r = phase_ends::end_steps(h.scalars, regs, cache, store, w, inputs[at]);
     going::went(h, r, bytes, outs)
 }
 
@@ -70,9 +68,7 @@ fn write_turn(
     if !going::due(pins, at) {
         return h;
     }
-    let r = phase_ends::end_write(
-        h.scalars, regs, cache, store, w, inputs[at],
-    );
+    let r = phase_ends::end_write(h.scalars, regs, cache, store, w, inputs[at]);
     going::went(h, r, bytes, outs)
 }
 
@@ -100,9 +96,7 @@ fn fill_turn(
     if !going::due(pins, at) {
         return h;
     }
-    let r = phase_ends::end_fill(
-        h.scalars, regs, cache, store, w, inputs[at],
-    );
+    let r = phase_ends::end_fill(h.scalars, regs, cache, store, w, inputs[at]);
     going::went(h, r, bytes, outs)
 }
 
@@ -131,9 +125,7 @@ fn wait_turn(
     if !going::due(pins, at) {
         return h;
     }
-    let r = phase_ends::end_wait(
-        h.scalars, regs, cache, store, w, inputs[at],
-    );
+    let r = phase_ends::end_wait(h.scalars, regs, cache, store, w, inputs[at]);
     going::went(h, r, bytes, outs)
 }
 
@@ -173,9 +165,7 @@ fn last_turn(
         return g;
     }
     let at = g.at;
-    let r = word_ends::last_clock(
-        g.scalars, regs, cache, store, w, inputs[at],
-    );
+    let r = word_ends::last_clock(g.scalars, regs, cache, store, w, inputs[at]);
     going::went(g, r, bytes, outs)
 }
 
@@ -205,12 +195,8 @@ pub fn flight_turn(
         1 => step_turn(
             g, program, regs, cache, store, w, pins, inputs, bytes, outs, base,
         ),
-        2 => write_turn(
-            g, program, regs, cache, store, w, pins, inputs, bytes, outs,
-        ),
-        3 => fill_turn(
-            g, program, regs, cache, store, w, pins, inputs, bytes, outs,
-        ),
+        2 => write_turn(g, program, regs, cache, store, w, pins, inputs, bytes, outs),
+        3 => fill_turn(g, program, regs, cache, store, w, pins, inputs, bytes, outs),
         4 => wait_turn(
             g, program, regs, cache, store, w, pins, inputs, bytes, outs, base,
         ),

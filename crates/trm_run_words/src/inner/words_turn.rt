@@ -36,14 +36,7 @@ fn enters(g: Going, phase: u64, count: u64) -> Going
 }
 
 // 14, the branch: one clock, or two if it is taken.
-fn branch(
-    g: Going,
-    regs: &[u32; 16],
-    cache: &Cache,
-    store: &[u32],
-    w: u32,
-    pins: &[u8],
-) -> Going
+fn branch(g: Going, regs: &[u32; 16], cache: &Cache, store: &[u32], w: u32, pins: &[u8]) -> Going
     requires { Under pins.now w (point g regs.now cache.now store.now)
         × Begins pins.now g × (operation w ≡ 14) }
     ensures { Quietly pins.now w (point g regs.now cache.now store.now) (point result regs.now cache.now store.now)
@@ -160,9 +153,7 @@ fn begin(
     let op = w / 0x4000 % 16;
     match op {
         11 => {
-            let r = first::first_control(
-                g.scalars, regs, cache, store, w, inputs[at],
-            );
+            let r = first::first_control(g.scalars, regs, cache, store, w, inputs[at]);
             going::went(g, r, bytes, outs)
         }
         12 => load(
@@ -172,17 +163,13 @@ fn begin(
             if store_waits(stops, g.scalars, regs, w, store.len() as u64) {
                 return g;
             }
-            let r = first::first_store(
-                g.scalars, regs, cache, store, w, inputs[at],
-            );
+            let r = first::first_store(g.scalars, regs, cache, store, w, inputs[at]);
             going::went(g, r, bytes, outs)
         }
         14 => branch(g, regs, cache, store, w, pins),
         15 => enters(g, 5, 0),
         _ => {
-            let r = first::first_arithmetic(
-                g.scalars, regs, cache, store, w, inputs[at],
-            );
+            let r = first::first_arithmetic(g.scalars, regs, cache, store, w, inputs[at]);
             going::went(g, r, bytes, outs)
         }
     }

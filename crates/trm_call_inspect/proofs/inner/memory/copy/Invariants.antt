@@ -6,7 +6,7 @@ use Rattle.trm_call_inspect.proofs.Laws.Loops.{Copied}
 use Rattle.trm_call_inspect.proofs.inner.memory.copy.Given as goal
 
 abbrev pub invariant-loop-i : goal.invariant-loop-i
-invariant-loop-i l = Copied (cache l.full l.dirty l.block l.words) l.store l.i l.buffer
+invariant-loop-i l = Copied l.cache l.store l.i l.buffer
 
 abbrev pub decreases-loop-i : goal.decreases-loop-i
 decreases-loop-i l = length l.store - l.i

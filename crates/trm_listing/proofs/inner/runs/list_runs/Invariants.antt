@@ -10,8 +10,8 @@ use Rattle.trm_listing.proofs.inner.runs.list_runs.Given as goal
 abbrev pub invariant-loop-p : goal.invariant-loop-p
 invariant-loop-p l =
     Along l.image l.program l.initial.p (lent_of l.initial.p.listed l.initial.regs
-    (cache l.initial.full l.initial.dirty l.initial.block l.initial.words) l.initial.store) l.initial.buf l.p
-    (lent_of l.p.listed l.regs (cache l.full l.dirty l.block l.words) l.store) l.buf
+    l.initial.cache l.initial.store) l.initial.buf l.p
+    (lent_of l.p.listed l.regs l.cache l.store) l.buf
     × (l.p.listed.left ≢ 0 → length l.initial.buf < l.p.listed.len + 32)
 
 abbrev pub decreases-loop-p : goal.decreases-loop-p

@@ -10,9 +10,9 @@ use Rattle.trm_run_machine.proofs.inner.turns.all_turns.Given as goal
 
 abbrev pub invariant-loop-g : goal.invariant-loop-g
 invariant-loop-g l = Turned l.program l.pins l.inputs
-    (point l.initial.g l.initial.regs (cache l.initial.full l.initial.dirty l.initial.block l.initial.words) l.initial.store)
+    (point l.initial.g l.initial.regs l.initial.cache l.initial.store)
     l.initial.bytes l.initial.outs (point l.g l.regs
-    (cache l.full l.dirty l.block l.words) l.store) l.bytes l.outs × (l.initial.g.at ≤ l.g.at)
+    l.cache l.store) l.bytes l.outs × (l.initial.g.at ≤ l.g.at)
     × (l.stops ≡ true → l.bytes ≡ l.initial.bytes)
 
 abbrev pub decreases-loop-g : goal.decreases-loop-g

@@ -4,14 +4,13 @@ use mathlib.Core.Bool.{true}
 use mathlib.Core.Path.{◌≡◌}
 use Rattle.trm_run_phases.specs.Reached.{point, Turned}
 use lib.ListN.{length}
-use Rattle.trm_cache.specs.Cache.{cache}
 use Rattle.trm_run_words.proofs.inner.words_turn.ready_turn.Given as goal
 
 abbrev pub invariant-loop-h : goal.invariant-loop-h
 invariant-loop-h l = Turned l.program l.pins l.inputs
-    (point l.initial.h l.initial.regs (cache l.initial.full l.initial.dirty l.initial.block l.initial.words) l.initial.store)
+    (point l.initial.h l.initial.regs l.initial.cache l.initial.store)
     l.initial.bytes l.initial.outs
-    (point l.h l.regs (cache l.full l.dirty l.block l.words) l.store) l.bytes l.outs
+    (point l.h l.regs l.cache l.store) l.bytes l.outs
     × (l.h.scalars.running.phase ≡ 0) × (l.initial.h.at ≤ l.h.at)
     × (l.h.at ≡ l.initial.h.at → l.h.scalars.status ≡ l.initial.h.scalars.status)
     × (l.stops ≡ true → l.bytes ≡ l.initial.bytes)
