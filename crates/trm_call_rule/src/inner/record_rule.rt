@@ -2,6 +2,8 @@
 // Paper: "The record holds phase and count: ..", "Phase 1 needs ..", row 5 of the table.
 // The parts are those of trm_core's Rule; each stops at the first clause that fails. The counts of phases 1 and 4 are bounded by the
 // table of base charges in trm_word.
+#![tactic(auto, unfolding(trm_core::specs::Rule::widths_ok, trm_core::specs::Rule::counts_ok, trm_core::specs::Rule::registers_ok, trm_core::specs::Rule::arithmetic_ok, trm_core::specs::Rule::writeback_ok, trm_core::specs::Rule::refill_ok, trm_core::specs::Rule::wait_ok, trm_core::specs::Rule::due_ok, trm_core::specs::Rule::phase_ok, trm_core::specs::Rule::marks_ok, trm_core::specs::Rule::line_ok, trm_core::specs::Rule::record_ok, trm_core::specs::Record::product_at, trm_core::specs::Record::remainder_at, trm_core::specs::Record::quotient_at,))]
+
 ghost use Rattle.std.specs.Prelude.{◌≡◌, true, not, ◌&&◌, ◌<◌, ◌≤◌, get_or, eqb};
 ghost use Rattle.trm_word.specs.Address.{store_length_ok};
 ghost use Rattle.trm_reference.specs.Geometry.{paper_geometry};
@@ -14,126 +16,36 @@ ghost use Rattle.trm_core.specs.Rule.{widths_ok, counts_ok, registers_ok, arithm
 ghost use Rattle.trm_core.specs.Rule.{writeback_ok, refill_ok, wait_ok, due_ok, phase_ok};
 ghost use Rattle.trm_core.specs.Rule.{marks_ok, line_ok, lines_ok, record_ok};
 
+use crate::inner::access;
+use crate::inner::access::Situation;
 use trm_alu::inner::divide::Divider;
+use trm_alu::inner::{divide, multiply};
 use trm_cache::record::Cache;
+use trm_clock_operands::inner::operands;
 use trm_core::record::{Counts, Scalars};
-
-// PC 12 bits, each flag 1, status 4.
-fn widths_ok(c: Scalars, regs: &[u32; 16]) -> bool
-    ensures { result ≡ widths_ok (gathered c regs.now) }
-{
-    if c.pc >= 4096 {
-        return false;
-    }
-    if c.n >= 2 {
-        return false;
-    }
-    if c.z >= 2 {
-        return false;
-    }
-    if c.c >= 2 {
-        return false;
-    }
-    if c.v >= 2 {
-        return false;
-    }
-    c.status < 16
-}
+use trm_word::inner::charge;
 
 // The clock count has 32 bits, and no other count is above it.
+#[tactic(auto, unfolding(trm_core::specs::Rule::counts_ok))]
 fn counts_ok(k: Counts) -> bool
     ensures { result ≡ counts_ok k }
 {
-    if k.clocks >= 0x1_0000_0000 {
-        return false;
-    }
-    if k.held > k.clocks {
-        return false;
-    }
-    if k.refills > k.clocks {
-        return false;
-    }
-    k.writebacks <= k.clocks
-}
-
-// The multiplier's register after k steps of the word w.
-fn product_at(c: Scalars, regs: &[u32; 16], w: u32, k: u64) -> u64
-    ensures { result ≡ product_at w (gathered c regs.now) k }
-{
-    if w / 0x4000 % 16 != 8 {
-        return 0;
-    }
-    let a = trm_clock_operands::inner::operands::operand_a(c, regs, w);
-    let b = trm_clock_operands::inner::operands::operand_b(c, regs, w);
-    trm_alu::inner::multiply::after(a, b, k)
-}
-
-// The divider's registers after k steps of the word w.
-fn divider_at(c: Scalars, regs: &[u32; 16], w: u32, k: u64) -> Divider
-    requires { k ≤ 32 }
-    ensures { (result.rem ≡ remainder_at w (gathered c regs.now) k)
-        × (result.quot ≡ quotient_at w (gathered c regs.now) k) }
-{
-    if w / 0x4000 % 16 != 9 {
-        return Divider { rem: 0, quot: 0 };
-    }
-    let a = trm_clock_operands::inner::operands::operand_a(c, regs, w);
-    let b = trm_clock_operands::inner::operands::operand_b(c, regs, w);
-    trm_alu::inner::divide::after(a, b, k)
-}
-
-// "a multiplier or divider register other than stated"; in phase 1 the count is at most 32 by the clause checked before.
-fn registers_ok(c: Scalars, regs: &[u32; 16], w: u32) -> bool
-    requires { c.running.phase ≡ 1 → c.running.count ≤ 32 }
-    ensures { result ≡ registers_ok w c.running (gathered c regs.now) }
-{
-    if c.running.phase == 1 {
-        if c.running.product != product_at(c, regs, w, c.running.count) {
-            return false;
-        }
-        let d = divider_at(c, regs, w, c.running.count);
-        if c.running.remainder != d.rem {
-            return false;
-        }
-        return c.running.quotient == d.quot;
-    }
-    if c.running.product != 0 {
-        return false;
-    }
-    if c.running.remainder != 0 {
-        return false;
-    }
-    c.running.quotient == 0
+    k.clocks < 0x1_0000_0000
+        && k.held <= k.clocks
+        && k.refills <= k.clocks
+        && k.writebacks <= k.clocks
 }
 
 // Phase 1, "1-32": the greatest count is one less than the base charge, "33: 32 steps, then the result".
+#[tactic(auto, unfolding(trm_core::specs::Rule::arithmetic_ok))]
 fn arithmetic_ok(w: u32, count: u64) -> bool
     ensures { result ≡ arithmetic_ok w count }
 {
-    if count < 1 {
+    if count < 1 || !access::is_stepped(w) {
         return false;
     }
-    if !super::access::is_stepped(w) {
-        return false;
-    }
-    let charge = trm_word::inner::charge::base_charge((w / 0x4000 % 16) as usize);
+    let charge = charge::base_charge((w / 0x4000 % 16) as usize);
     count < charge
-}
-
-// Phase 4, "1-5 for LD, 1-4 for ST": the greatest count is one less than the charge with the cache off, "6, 5", which is the base
-// charge and 4 more.
-fn wait_ok(c: Scalars, regs: &[u32; 16], w: u32, n: u64, count: u64) -> bool
-    requires { store_length_ok n ≡ true }
-    ensures { result ≡ wait_ok w n count (gathered c regs.now) }
-{
-    if count < 1 {
-        return false;
-    }
-    if !super::access::without_cache(c, regs, w, n) {
-        return false;
-    }
-    let uncached = trm_word::inner::charge::base_charge((w / 0x4000 % 16) as usize) + 4;
-    count < uncached
 }
 
 // Whether the cache has a dirty line.
@@ -144,289 +56,231 @@ fn any_dirty(cache: &Cache) -> bool
     d.count != 0
 }
 
-// Phase 2 for an access: its line is full and dirty, and holds another block.
-fn evicts(
-    c: Scalars,
-    regs: &[u32; 16],
-    cache: &Cache,
-    w: u32,
-    n: u64,
-) -> bool
-    requires { store_length_ok n ≡ true }
-    ensures { result ≡ ((line_for paper_geometry w n (gathered c regs.now) cache.now).full
-        && (line_for paper_geometry w n (gathered c regs.now) cache.now).dirty
-        && not (hits paper_geometry w n (gathered c regs.now) cache.now)) }
-{
-    if !super::access::line_for_full(c, regs, cache, w, n) {
-        return false;
+impl Situation<'_> {
+    // PC 12 bits, each flag 1, status 4.
+    #[tactic(auto, unfolding(trm_core::specs::Rule::widths_ok))]
+    fn widths_ok(&self) -> bool
+        ensures { result ≡ widths_ok (gathered self.now.c self.now.regs.now) }
+    {
+        let c = self.c;
+        c.pc < 4096 && c.n < 2 && c.z < 2 && c.c < 2 && c.v < 2 && c.status < 16
     }
-    if !super::access::line_for_dirty(c, regs, cache, w, n) {
-        return false;
-    }
-    !super::access::hits(c, regs, cache, w, n)
-}
 
-// Phase 2, write-back.
-fn writeback_ok(
-    c: Scalars,
-    regs: &[u32; 16],
-    cache: &Cache,
-    w: u32,
-    n: u64,
-    count: u64,
-) -> bool
-    requires { store_length_ok n ≡ true }
-    ensures { result ≡ writeback_ok paper_geometry w n count (gathered c regs.now) cache.now }
-{
-    if count >= 10 {
-        return false;
+    // The multiplier's register after k steps of the word at PC.
+    #[tactic(auto, unfolding(trm_core::specs::Record::product_at))]
+    fn product_at(&self, k: u64) -> u64
+        ensures { result ≡ product_at self.now.w (gathered self.now.c self.now.regs.now) k }
+    {
+        if self.w / 0x4000 % 16 != 8 {
+            return 0;
+        }
+        let a = operands::operand_a(self.c, self.regs, self.w);
+        let b = operands::operand_b(self.c, self.regs, self.w);
+        multiply::after(a, b, k)
     }
-    if super::access::to_memory(c, regs, w, n) {
-        return evicts(c, regs, cache, w, n);
-    }
-    if !trm_clock_operands::inner::operands::turns_cache_off(c, regs, w) {
-        return false;
-    }
-    any_dirty(cache)
-}
 
-// Phase 3, refill.
-fn refill_ok(
-    c: Scalars,
-    regs: &[u32; 16],
-    cache: &Cache,
-    w: u32,
-    n: u64,
-    count: u64,
-) -> bool
-    requires { store_length_ok n ≡ true }
-    ensures { result ≡ refill_ok paper_geometry w n count (gathered c regs.now) cache.now }
-{
-    if count >= 10 {
-        return false;
+    // The divider's registers after k steps of the word at PC.
+    #[tactic(auto, unfolding(trm_core::specs::Record::remainder_at, trm_core::specs::Record::quotient_at))]
+    fn divider_at(&self, k: u64) -> Divider
+        requires { k ≤ 32 }
+        ensures { (result.rem ≡ remainder_at self.now.w (gathered self.now.c self.now.regs.now) k)
+            × (result.quot ≡ quotient_at self.now.w (gathered self.now.c self.now.regs.now) k) }
+    {
+        if self.w / 0x4000 % 16 != 9 {
+            return Divider { rem: 0, quot: 0 };
+        }
+        let a = operands::operand_a(self.c, self.regs, self.w);
+        let b = operands::operand_b(self.c, self.regs, self.w);
+        divide::after(a, b, k)
     }
-    if !super::access::through_cache(c, regs, w, n) {
-        return false;
-    }
-    !super::access::line_for_full(c, regs, cache, w, n)
-}
 
-// Phase 5 for 11 clearing status bit 3: no line is dirty.
-fn off_due(
-    c: Scalars,
-    regs: &[u32; 16],
-    cache: &Cache,
-    w: u32,
-) -> bool
-    ensures { result ≡ (turns_cache_off w (gathered c regs.now) && eqb (count_dirty paper_geometry cache.now) 0) }
-{
-    if !trm_clock_operands::inner::operands::turns_cache_off(c, regs, w) {
-        return false;
+    // "a multiplier or divider register other than stated"; in phase 1 the count is at most 32 by the clause checked before.
+    #[tactic(auto, unfolding(trm_core::specs::Rule::registers_ok))]
+    fn registers_ok(&self) -> bool
+        requires { self.now.c.running.phase ≡ 1 → self.now.c.running.count ≤ 32 }
+        ensures { result ≡ registers_ok self.now.w self.now.c.running (gathered self.now.c self.now.regs.now) }
+    {
+        let r = self.c.running;
+        if r.phase == 1 {
+            let d = self.divider_at(r.count);
+            return r.product == self.product_at(r.count)
+                && r.remainder == d.rem
+                && r.quotient == d.quot;
+        }
+        r.product == 0 && r.remainder == 0 && r.quotient == 0
     }
-    let d = cache.dirty_lines();
-    d.count == 0
-}
 
-// Phase 5 for LD from a device.
-fn device_due(c: Scalars, regs: &[u32; 16], w: u32, n: u64) -> bool
-    requires { store_length_ok n ≡ true }
-    ensures { result ≡ (is_load w && to_device w (gathered c regs.now) n) }
-{
-    if !trm_clock_operands::inner::operands::is_load(w) {
-        return false;
+    // Phase 4, "1-5 for LD, 1-4 for ST": the greatest count is one less than the charge with the cache off, "6, 5", which is the base
+    // charge and 4 more.
+    #[tactic(auto, unfolding(trm_core::specs::Rule::wait_ok))]
+    fn wait_ok(&self, count: u64) -> bool
+        ensures { result ≡ wait_ok self.now.w self.now.n count (gathered self.now.c self.now.regs.now) }
+    {
+        if count < 1 || !self.without_cache() {
+            return false;
+        }
+        let uncached = charge::base_charge((self.w / 0x4000 % 16) as usize) + 4;
+        count < uncached
     }
-    super::access::to_device(c, regs, w, n)
-}
 
-// Phase 5 for LD and ST with its block in the line.
-fn hit_due(
-    c: Scalars,
-    regs: &[u32; 16],
-    cache: &Cache,
-    w: u32,
-    n: u64,
-) -> bool
-    requires { store_length_ok n ≡ true }
-    ensures { result ≡ (to_memory w (gathered c regs.now) n && hits paper_geometry w n (gathered c regs.now) cache.now) }
-{
-    if !super::access::to_memory(c, regs, w, n) {
-        return false;
+    // Phase 2 for an access: its line is full and dirty, and holds another block.
+    fn evicts(&self) -> bool
+        ensures { result ≡ ((line_for paper_geometry self.now.w self.now.n (gathered self.now.c self.now.regs.now) self.now.cache.now).full
+            && (line_for paper_geometry self.now.w self.now.n (gathered self.now.c self.now.regs.now) self.now.cache.now).dirty
+            && not (hits paper_geometry self.now.w self.now.n (gathered self.now.c self.now.regs.now) self.now.cache.now)) }
+    {
+        self.line_for_full() && self.line_for_dirty() && !self.hits()
     }
-    super::access::hits(c, regs, cache, w, n)
-}
 
-// Phase 5, last clock due.
-fn due_ok(
-    c: Scalars,
-    regs: &[u32; 16],
-    cache: &Cache,
-    w: u32,
-    n: u64,
-) -> bool
-    requires { store_length_ok n ≡ true }
-    ensures { result ≡ due_ok paper_geometry w n (gathered c regs.now) cache.now }
-{
-    if super::access::takes_branch(c, regs, w) {
-        return true;
+    // Phase 2, write-back.
+    #[tactic(auto, unfolding(trm_core::specs::Rule::writeback_ok, trm_reference::specs::Geometry::burst))]
+    fn writeback_ok(&self, count: u64) -> bool
+        ensures { result ≡ writeback_ok paper_geometry self.now.w self.now.n count (gathered self.now.c self.now.regs.now) self.now.cache.now }
+    {
+        if count >= 10 {
+            return false;
+        }
+        if self.to_memory() {
+            return self.evicts();
+        }
+        operands::turns_cache_off(self.c, self.regs, self.w) && any_dirty(self.cache)
     }
-    if w / 0x4000 % 16 == 15 {
-        return true;
-    }
-    if super::access::is_jump(w) {
-        return true;
-    }
-    if off_due(c, regs, cache, w) {
-        return true;
-    }
-    if device_due(c, regs, w, n) {
-        return true;
-    }
-    hit_due(c, regs, cache, w, n)
-}
 
-// Phase and count.
-fn phase_ok(
-    c: Scalars,
-    regs: &[u32; 16],
-    cache: &Cache,
-    w: u32,
-    n: u64,
-) -> bool
-    requires { store_length_ok n ≡ true }
-    ensures { result ≡ phase_ok paper_geometry w n c.running (gathered c regs.now) cache.now }
-{
-    if c.running.phase == 0 {
-        return c.running.count == 0;
+    // Phase 3, refill.
+    #[tactic(auto, unfolding(trm_core::specs::Rule::refill_ok, trm_reference::specs::Geometry::burst))]
+    fn refill_ok(&self, count: u64) -> bool
+        ensures { result ≡ refill_ok paper_geometry self.now.w self.now.n count (gathered self.now.c self.now.regs.now) self.now.cache.now }
+    {
+        if count >= 10 {
+            return false;
+        }
+        self.through_cache() && !self.line_for_full()
     }
-    if c.running.phase == 1 {
-        return arithmetic_ok(w, c.running.count);
+
+    // Phase 5 for 11 clearing status bit 3: no line is dirty.
+    fn off_due(&self) -> bool
+        ensures { result ≡ (turns_cache_off self.now.w (gathered self.now.c self.now.regs.now)
+            && eqb (count_dirty paper_geometry self.now.cache.now) 0) }
+    {
+        operands::turns_cache_off(self.c, self.regs, self.w) && !any_dirty(self.cache)
     }
-    if c.running.phase == 2 {
-        return writeback_ok(c, regs, cache, w, n, c.running.count);
+
+    // Phase 5 for LD from a device.
+    #[tactic(auto, unfolding(trm_reference::specs::Access::is_access))]
+    fn device_due(&self) -> bool
+        ensures { result ≡ (is_load self.now.w && to_device self.now.w (gathered self.now.c self.now.regs.now) self.now.n) }
+    {
+        operands::is_load(self.w) && self.to_device()
     }
-    if c.running.phase == 3 {
-        return refill_ok(c, regs, cache, w, n, c.running.count);
+
+    // Phase 5 for LD and ST with its block in the line.
+    fn hit_due(&self) -> bool
+        ensures { result ≡ (to_memory self.now.w (gathered self.now.c self.now.regs.now) self.now.n
+            && hits paper_geometry self.now.w self.now.n (gathered self.now.c self.now.regs.now) self.now.cache.now) }
+    {
+        self.to_memory() && self.hits()
     }
-    if c.running.phase == 4 {
-        return wait_ok(c, regs, w, n, c.running.count);
+
+    // Phase 5, last clock due.
+    #[tactic(auto, unfolding(trm_core::specs::Rule::due_ok))]
+    fn due_ok(&self) -> bool
+        ensures { result ≡ due_ok paper_geometry self.now.w self.now.n (gathered self.now.c self.now.regs.now) self.now.cache.now }
+    {
+        self.takes_branch()
+            || self.w / 0x4000 % 16 == 15
+            || self.is_jump()
+            || self.off_due()
+            || self.device_due()
+            || self.hit_due()
     }
-    if c.running.phase != 5 {
-        return false;
+
+    // Phase and count.
+    #[tactic(auto, unfolding(trm_core::specs::Rule::phase_ok))]
+    fn phase_ok(&self) -> bool
+        ensures { result ≡ phase_ok paper_geometry self.now.w self.now.n self.now.c.running (gathered self.now.c self.now.regs.now) self.now.cache.now }
+    {
+        let count = self.c.running.count;
+        match self.c.running.phase {
+            0 => count == 0,
+            1 => arithmetic_ok(self.w, count),
+            2 => self.writeback_ok(count),
+            3 => self.refill_ok(count),
+            4 => self.wait_ok(count),
+            5 => count == 0 && self.due_ok(),
+            _ => false,
+        }
     }
-    if c.running.count != 0 {
-        return false;
-    }
-    due_ok(c, regs, cache, w, n)
 }
 
 // Each of full and dirty has one bit.
-fn marks_ok(
-    cache: &Cache,
-    l: usize,
-) -> bool
+#[tactic(auto, unfolding(trm_core::specs::Rule::marks_ok))]
+fn marks_ok(cache: &Cache, l: usize) -> bool
     requires { l < 16 }
     ensures { result ≡ marks_ok cache.now l }
 {
-    if full[l] >= 2 {
-        return false;
-    }
-    dirty[l] < 2
+    cache.full[l] < 2 && cache.dirty[l] < 2
 }
 
 // A full line: the cache is on, its block belongs to this line and is inside the store.
-fn full_ok(
-    on: bool,
-    n: u64,
-    cache: &Cache,
-    l: usize,
-) -> bool
-    requires { (l < 16)
-        × ((line_at paper_geometry cache.now l).full ≡ true) }
+#[tactic(auto, unfolding(trm_core::specs::Rule::line_ok, trm_reference::specs::Geometry::line_of))]
+fn full_ok(on: bool, n: u64, cache: &Cache, l: usize) -> bool
+    requires { (l < 16) × ((line_at paper_geometry cache.now l).full ≡ true) }
     ensures { result ≡ line_ok paper_geometry on n l (line_at paper_geometry cache.now l) }
 {
     let b = cache.line_block(l);
-    if !on {
-        return false;
-    }
-    if b % 16 != l as u64 {
-        return false;
-    }
-    b * 8 + 8 <= n
+    on && b % 16 == l as u64 && b * 8 + 8 <= n
 }
 
 // An empty line is clean and has block 0.
-fn empty_ok(dirty: &[u8; 16], block: &[u16; 16], l: usize) -> bool
+fn empty_ok(cache: &Cache, l: usize) -> bool
     requires { l < 16 }
-    ensures { result ≡ (eqb (get_or dirty.now l 0) 0 && eqb (get_or block.now l 0) 0) }
+    ensures { result ≡ (eqb (get_or cache.now.dirty l 0) 0 && eqb (get_or cache.now.block l 0) 0) }
 {
-    if dirty[l] != 0 {
-        return false;
-    }
-    block[l] == 0
+    cache.dirty[l] == 0 && cache.block[l] == 0
 }
 
 // One line of the cache: its marks, and the conditions on a full or an empty line. Empty lines go first, since they need fewest tests.
-fn good_line(
-    on: bool,
-    n: u64,
-    cache: &Cache,
-    l: usize,
-) -> bool
+fn good_line(on: bool, n: u64, cache: &Cache, l: usize) -> bool
     requires { l < 16 }
     ensures { result ≡ (marks_ok cache.now l && line_ok paper_geometry on n l (line_at paper_geometry cache.now l)) }
 {
-    if full[l] == 0 {
-        return empty_ok(dirty, block, l);
+    if cache.full[l] == 0 {
+        return empty_ok(cache, l);
     }
-    if !marks_ok(cache, l) {
-        return false;
-    }
-    full_ok(on, n, cache, l)
+    marks_ok(cache, l) && full_ok(on, n, cache, l)
 }
 
 // Every line of the cache.
-fn lines_ok(
-    on: bool,
-    n: u64,
-    cache: &Cache,
-) -> bool
+#[tactic(auto, unfolding(trm_core::specs::Rule::lines_ok))]
+fn lines_ok(on: bool, n: u64, cache: &Cache) -> bool
     ensures { result ≡ lines_ok paper_geometry on n cache.now }
 {
-    let mut l: usize = 0;
-    while l < 16 {
+    for l in 0..16 {
         if !good_line(on, n, cache, l) {
             return false;
         }
-        l += 1;
     }
     true // each line is good
 }
 
 // Row 5 as a whole.
-pub fn record_ok(
-    c: Scalars,
-    program: &[u32],
-    regs: &[u32; 16],
-    cache: &Cache,
-    n: u64,
-) -> bool
+#[tactic(auto, unfolding(trm_core::specs::Rule::record_ok))]
+pub fn record_ok(c: Scalars, program: &[u32], regs: &[u32; 16], cache: &Cache, n: u64) -> bool
     requires { store_length_ok n ≡ true }
     ensures { result ≡ record_ok paper_geometry program.now n (whole c regs.now cache.now) }
 {
-    let w = trm_clock_operands::inner::operands::word_at(program, c.pc);
-    if !widths_ok(c, regs) {
-        return false;
-    }
-    if !phase_ok(c, regs, cache, w, n) {
-        return false;
-    }
-    if !registers_ok(c, regs, w) {
-        return false;
-    }
-    let k = c.counts;
-    if !counts_ok(k) {
-        return false;
-    }
-    let on = trm_clock_operands::inner::operands::cache_on(c, regs);
-    lines_ok(on, n, cache)
+    let w = operands::word_at(program, c.pc);
+    let x = Situation {
+        c,
+        regs,
+        cache,
+        w,
+        n,
+    };
+    let on = operands::cache_on(c, regs);
+    x.widths_ok()
+        && x.phase_ok()
+        && x.registers_ok()
+        && counts_ok(c.counts)
+        && lines_ok(on, n, cache)
 }
