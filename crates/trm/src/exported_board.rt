@@ -105,8 +105,7 @@ pub fn trm_board_run(
     words: &mut [u32],
 ) -> BoardRunAnswer
     ensures { BoardRunNumbered b program.now store.old false given.now switches.now
-        levels.old bytes.old words.old result store.new levels.new bytes.new
-        words.new }
+        levels.old bytes.old words.old result store.new levels.new bytes.new words.new }
 {
     let r = trm_board_calls::board_calls::run(
         b, program, store, given, switches, levels, bytes, words,
@@ -133,8 +132,7 @@ pub fn trm_board_run_joined(
     words: &mut [u32],
 ) -> BoardRunAnswer
     ensures { BoardRunNumbered b program.now store.old true given.now switches.now
-        levels.old bytes.old words.old result store.new levels.new bytes.new
-        words.new }
+        levels.old bytes.old words.old result store.new levels.new bytes.new words.new }
 {
     let r = trm_board_calls::board_calls::run_joined(
         b, program, store, given, switches, levels, bytes, words,

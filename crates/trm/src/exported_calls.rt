@@ -53,8 +53,7 @@ pub fn trm_run(
     bytes: &mut [u8],
     words: &mut [u32],
 ) -> RunAnswer
-    ensures { RunNumbered m program.now store.old pins.now inputs.now
-        bytes.old words.old result store.new bytes.new words.new }
+    ensures { RunNumbered m program.now store.old pins.now inputs.now bytes.old words.old result store.new bytes.new words.new }
 {
     let r = trm_calls::machine_calls::run(m, program, store, pins, inputs, bytes, words);
     let refused = r.refused;

@@ -14,17 +14,13 @@ pub fn trm_clock(
     pins: u8,
     input: u32,
 ) -> LentAnswer
-    ensures { ClockNumbered m.old program.now store.old pins input
-        (with_record m.new result) store.new }
+    ensures { ClockNumbered m.old program.now store.old pins input (with_record m.new result) store.new }
 {
     let r = crate::inner::placed::clock(
         m.scalars,
         program,
         &mut m.regs,
-        &mut m.full,
-        &mut m.dirty,
-        &mut m.block,
-        &mut m.words,
+        &mut m.cache,
         store,
         pins,
         input,

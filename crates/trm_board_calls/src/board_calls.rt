@@ -123,8 +123,7 @@ fn any_run(
     words: &mut [u32],
 ) -> BoardRun
     ensures { RunHolds b program.now store.old joined given.now switches.now
-        levels.old bytes.old words.old result store.new levels.new bytes.new
-        words.new }
+        levels.old bytes.old words.old result store.new levels.new bytes.new words.new }
 {
     let refused = board_rows::run_refusal(b, program, store, given, switches, levels, bytes, words);
     if !record_rows::accepted(refused) {
@@ -139,10 +138,7 @@ fn any_run(
     let d = b.devices;
     let c = m.scalars;
     let mut regs = m.regs;
-    let mut full = m.full;
-    let mut dirty = m.dirty;
-    let mut block = m.block;
-    let mut cached = m.words;
+    let mut cache = m.cache;
     let g = board_clocks::board_clocks(
         c,
         d,
@@ -162,10 +158,7 @@ fn any_run(
     let machine = Machine {
         scalars: after,
         regs: regs,
-        full: full,
-        dirty: dirty,
-        block: block,
-        words: cached,
+        cache: cache,
     };
     let board = Board {
         machine: machine,
@@ -191,8 +184,7 @@ pub fn run(
     words: &mut [u32],
 ) -> BoardRun
     ensures { RunHolds b program.now store.old false given.now switches.now
-        levels.old bytes.old words.old result store.new levels.new bytes.new
-        words.new }
+        levels.old bytes.old words.old result store.new levels.new bytes.new words.new }
 {
     any_run(
         b, program, store, false, given, switches, levels, bytes, words,
@@ -211,8 +203,7 @@ pub fn run_joined(
     words: &mut [u32],
 ) -> BoardRun
     ensures { RunHolds b program.now store.old true given.now switches.now
-        levels.old bytes.old words.old result store.new levels.new bytes.new
-        words.new }
+        levels.old bytes.old words.old result store.new levels.new bytes.new words.new }
 {
     any_run(
         b, program, store, true, given, switches, levels, bytes, words,

@@ -16,10 +16,7 @@ pub fn look(m: Machine, program: &[u32], store: &[u32], address: u32) -> Look
 {
     let c = m.scalars;
     let regs = m.regs;
-    let full = m.full;
-    let dirty = m.dirty;
-    let block = m.block;
-    let words = m.words;
+    let cache = m.cache;
     let refused = call_refusals::look_refusal(
         c, program, &regs, &cache, store, address,
     );
@@ -42,10 +39,7 @@ pub fn copy(m: Machine, program: &[u32], store: &[u32], buffer: &mut [u32]) -> R
 {
     let c = m.scalars;
     let regs = m.regs;
-    let full = m.full;
-    let dirty = m.dirty;
-    let block = m.block;
-    let words = m.words;
+    let cache = m.cache;
     let refused = call_refusals::copy_refusal(
         c, program, &regs, &cache, store, buffer,
     );

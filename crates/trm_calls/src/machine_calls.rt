@@ -35,10 +35,7 @@ pub fn clock(m: Machine, program: &[u32], store: &mut [u32], pins: u8, input: u3
 {
     let c = m.scalars;
     let regs = m.regs;
-    let full = m.full;
-    let dirty = m.dirty;
-    let block = m.block;
-    let words = m.words;
+    let cache = m.cache;
     let refused = call_refusals::clock_refusal(
         c, program, &regs, &cache, store, pins,
     );
@@ -64,15 +61,11 @@ pub fn run(
     bytes: &mut [u8],
     words: &mut [u32],
 ) -> Run
-    ensures { RunHolds m program.now store.old pins.now inputs.now
-        bytes.old words.old result store.new bytes.new words.new }
+    ensures { RunHolds m program.now store.old pins.now inputs.now bytes.old words.old result store.new bytes.new words.new }
 {
     let c = m.scalars;
     let regs = m.regs;
-    let full = m.full;
-    let dirty = m.dirty;
-    let block = m.block;
-    let cached = m.words;
+    let cache = m.cache;
     let refused = call_refusals::run_refusal(
         c, program, &regs, &cache, store, pins, inputs, bytes, words,
     );

@@ -5,7 +5,7 @@
 use Rattle.std.specs.Prelude.{ℕ, List}
 use Rattle.trm_reference.specs.Access.{Answer}
 use Rattle.trm_reference.specs.Trace.{After}
-use Rattle.trm_cache.specs.Cache.{cache}
+use Rattle.trm_cache.specs.declared.record.Cache.{Cache}
 use Rattle.trm_core.specs.Record as core
 use Rattle.trm_core.specs.Record.{Lent, whole}
 use Rattle.trm_run_machine.specs.declared.machine.Machine.{Machine}
@@ -15,7 +15,7 @@ use Rattle.trm_core.specs.Run.{Ran}
 use Rattle.trm_core.specs.declared.record.Scalars.{Scalars}
 
 abbrev pub record_of : Machine → core.Machine
-record_of m = whole m.scalars m.regs (cache m.full m.dirty m.block m.words)
+record_of m = whole m.scalars m.regs m.cache
 
 -- the record with the borrowed store
 abbrev pub lent : Machine → List ℕ → Lent
@@ -41,5 +41,5 @@ ran_to r used s bytes words =
     }
 
 -- a record from its parts
-abbrev pub parts : Scalars → List ℕ → List ℕ → List ℕ → List ℕ → List ℕ → Machine
-parts c rs f d b ws = record { scalars = c; regs = rs; full = f; dirty = d; block = b; words = ws }
+abbrev pub parts : Scalars → List ℕ → Cache → Machine
+parts c rs ca = record { scalars = c; regs = rs; cache = ca }

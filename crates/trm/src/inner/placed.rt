@@ -31,10 +31,7 @@ pub fn clock(
     input: u32,
 ) -> Placed
     requires { Shaped paper_geometry (record_of (parts c regs.old cache.old)) }
-    ensures { ClockNumbered
-        (parts c regs.old cache.old)
-        program.now store.old pins input
-        (with_parts result regs.new cache.new)
+    ensures { ClockNumbered (parts c regs.old cache.old) program.now store.old pins input (with_parts result regs.new cache.new)
         store.new }
 {
     let refused = call_refusals::clock_refusal(

@@ -52,11 +52,9 @@ pub fn board_clock(
     switches: u8,
 ) -> Stepped
     requires { Ready program.now (board_at (parts c regs.old cache.old) d store.old) 1 }
-    ensures { stepped
-        (parts result.scalars regs.new cache.new)
+    ensures { stepped (parts result.scalars regs.new cache.new)
         result.devices store.new result.level result.byte result.word result.finished
-        ≡ board_clock paper_timing (record_core paper_geometry program.now) (board_at
-        (parts c regs.old cache.old)
+        ≡ board_clock paper_timing (record_core paper_geometry program.now) (board_at (parts c regs.old cache.old)
         d store.old) (inputs_of joined given switches) }
 {
     let serial = d.serial;

@@ -37,13 +37,10 @@ fn quiet_ahead(
     bytes: &mut [u8],
     outs: &mut [u32],
 ) -> Gone
-    requires { Some program.now joined given.now (stage
-        (board_at (parts g.scalars regs.old cache.old) g.devices store.old)
+    requires { Some program.now joined given.now (stage (board_at (parts g.scalars regs.old cache.old) g.devices store.old)
         g.finished g.at levels.old bytes.old outs.old) }
-    ensures { ((ws : List ℕ) → Turned program.now joined given.now ws (stage
-        (board_at (parts g.scalars regs.old cache.old)
-        g.devices store.old) g.finished g.at levels.old bytes.old outs.old)
-        (stage
+    ensures { ((ws : List ℕ) → Turned program.now joined given.now ws (stage (board_at (parts g.scalars regs.old cache.old)
+        g.devices store.old) g.finished g.at levels.old bytes.old outs.old) (stage
         (board_at (parts result.scalars regs.new cache.new)
         result.devices store.new) result.finished result.at levels.new bytes.new outs.new))
         × (g.at ≤ result.at) }
@@ -92,10 +89,8 @@ fn next_clock(
     requires { At program.now joined given.now switches.now (stage
         (board_at (parts g.scalars regs.old cache.old) g.devices store.old)
         g.finished g.at levels.old bytes.old outs.old) × (g.at < length given.now) }
-    ensures { Turned program.now joined given.now switches.now (stage
-        (board_at (parts g.scalars regs.old cache.old)
-        g.devices store.old) g.finished g.at levels.old bytes.old outs.old)
-        (stage
+    ensures { Turned program.now joined given.now switches.now (stage (board_at (parts g.scalars regs.old cache.old)
+        g.devices store.old) g.finished g.at levels.old bytes.old outs.old) (stage
         (board_at (parts result.scalars regs.new cache.new)
         result.devices store.new) result.finished result.at levels.new bytes.new outs.new)
         × (result.at ≡ g.at + 1) }
@@ -146,18 +141,13 @@ pub fn board_clocks(
         (length given.now) × (length given.now ≡ length switches.now) × (length levels.old ≡ length given.now)
         × (length bytes.old ≡ length given.now) × (length outs.old ≡ length given.now) }
     ensures { record {
-      state = board_at
-          (parts result.scalars regs.new cache.new)
-          result.devices store.new;
+      state = board_at (parts result.scalars regs.new cache.new) result.devices store.new;
       used = length given.now;
       finished = result.finished;
       levels = levels.new;
       bytes = bytes.new;
       words = outs.new;
-    }
-        ≡ board_run_of program.now (board_at
-        (parts c regs.old cache.old)
-        d store.old) joined given.now switches.now }
+    } ≡ board_run_of program.now (board_at (parts c regs.old cache.old) d store.old) joined given.now switches.now }
 {
     let mut g = Gone {
         scalars: c,

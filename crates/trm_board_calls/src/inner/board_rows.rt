@@ -19,10 +19,7 @@ fn board_refusal(b: Board, program: &[u32], store: &[u32]) -> Refusal
     let d = b.devices;
     let c = m.scalars;
     let regs = m.regs;
-    let full = m.full;
-    let dirty = m.dirty;
-    let block = m.block;
-    let words = m.words;
+    let cache = m.cache;
     let refused = record_rows::record_refusal(
         c, program, &regs, &cache, store,
     );
@@ -50,8 +47,7 @@ fn given_refused(given: &[u8], switches: &[u8]) -> bool
 
 // Row 7 of a run: "other length than the run", for its three buffers.
 fn buffers_refused(given: &[u8], levels: &[u8], bytes: &[u8], words: &[u32]) -> bool
-    ensures { result ≡ (not (eqb (length levels.now) (length given.now))
-        || not (eqb (length bytes.now) (length given.now))
+    ensures { result ≡ (not (eqb (length levels.now) (length given.now)) || not (eqb (length bytes.now) (length given.now))
         || not (eqb (length words.now) (length given.now))) }
 {
     if levels.len() != given.len() {

@@ -16,8 +16,7 @@ pub fn look(
     address: u32,
 ) -> u32
     requires { store_length_ok (length store.now) ≡ true }
-    ensures { result ≡ view paper_geometry cache.now
-        store.now (address % length store.now) }
+    ensures { result ≡ view paper_geometry cache.now store.now (address % length store.now) }
 {
     let a = address as usize % store.len();
     cache.peek(store, a)
@@ -30,9 +29,7 @@ pub fn copy(
     buffer: &mut [u32],
 )
     requires { length buffer.old ≡ length store.now }
-    ensures { buffer.new
-        ≡ copy_of paper_geometry cache.now
-        store.now }
+    ensures { buffer.new ≡ copy_of paper_geometry cache.now store.now }
 {
     let mut i: usize = 0;
     while i < store.len() {

@@ -44,13 +44,7 @@ pub fn record_refusal(
     if !super::table_rows::store_ok(c.size, store) {
         return Refusal::Store;
     }
-    if !trm_call_rule::inner::record_rule::record_ok(
-        c,
-        program,
-        regs,
-        cache,
-        store.len() as u64,
-    ) {
+    if !trm_call_rule::inner::record_rule::record_ok(c, program, regs, cache, store.len() as u64) {
         return Refusal::Record;
     }
     Refusal::Accepted

@@ -47,8 +47,7 @@ fn load_store(image: &[u8], store: &mut [u32]) -> usize
 // Checks the whole image; then loads program and store and writes the header, or writes the row of the refusal.
 pub fn first_piece(image: &[u8], program: &mut [u32], store: &mut [u32], buf: &mut [u8]) -> Listing
     requires { (length program.old ≡ 4096) × (length store.old ≡ 2048) × (128 ≤ length buf.old) }
-    ensures { StartHolds image.now program.old store.old buf.old result
-        program.new store.new buf.new }
+    ensures { StartHolds image.now program.old store.old buf.old result program.new store.new buf.new }
 {
     let checked = reader::check(image, 2048);
     let fault = checked.fault;
@@ -100,8 +99,7 @@ pub fn next_piece(
     buf: &mut [u8],
 ) -> Listing
     requires { Ready image.now program.now store.old l × (128 ≤ length buf.old) }
-    ensures { PieceHolds image.now program.now store.old buf.old l result
-        store.new buf.new }
+    ensures { PieceHolds image.now program.now store.old buf.old l result store.new buf.new }
 {
     let m = l.machine;
     if l.over {
@@ -119,10 +117,7 @@ pub fn next_piece(
     }
     let c = m.scalars;
     let mut regs = m.regs;
-    let mut full = m.full;
-    let mut dirty = m.dirty;
-    let mut block = m.block;
-    let mut cached = m.words;
+    let mut cache = m.cache;
     let base = trm_word::inner::charge::base_charges();
     let begun = Listed {
         scalars: c,
@@ -152,10 +147,7 @@ pub fn next_piece(
     let machine = Machine {
         scalars: after,
         regs: regs,
-        full: full,
-        dirty: dirty,
-        block: block,
-        words: cached,
+        cache: cache,
     };
     Listing {
         machine: machine,

@@ -53,10 +53,7 @@ fn run_clocks(
         l.took l.left (record { line_byte = pins; input = input })
         × (l.len ≤ length buf.old) × (base.now ≡ charges) }
     ensures { Onward program.now (record { line_byte = pins; input = input })
-        l (lent_of l regs.old cache.old
-        store.old) buf.old
-        result (lent_of result regs.new cache.new
-        store.new) buf.new
+        l (lent_of l regs.old cache.old store.old) buf.old result (lent_of result regs.new cache.new store.new) buf.new
         × (result.left ≢ 0 → length buf.old < result.len + 32) }
 {
     if interrupt::is_stalled(pins) {
@@ -121,14 +118,10 @@ fn run_here(
     base: &[u64; 16],
     buf: &mut [u8],
 ) -> Place
-    requires { Stands image.now program.now q
-        (lent_of q.listed regs.old cache.old store.old) buf.old
+    requires { Stands image.now program.now q (lent_of q.listed regs.old cache.old store.old) buf.old
         × (base.now ≡ charges) }
-    ensures { Along image.now program.now q
-        (lent_of q.listed regs.old cache.old
-        store.old) buf.old result
-        (lent_of result.listed regs.new cache.new
-        store.new) buf.new
+    ensures { Along image.now program.now q (lent_of q.listed regs.old cache.old store.old) buf.old result
+        (lent_of result.listed regs.new cache.new store.new) buf.new
         × (result.listed.left ≢ 0 → length buf.old < result.listed.len + 32) × (result.at ≡ q.at) }
 {
     let l = q.listed;
@@ -154,14 +147,10 @@ pub fn list_runs(
     base: &[u64; 16],
     buf: &mut [u8],
 ) -> Place
-    requires { Stands image.now program.now q
-        (lent_of q.listed regs.old cache.old store.old) buf.old
+    requires { Stands image.now program.now q (lent_of q.listed regs.old cache.old store.old) buf.old
         × (base.now ≡ charges) }
-    ensures { Along image.now program.now q
-        (lent_of q.listed regs.old cache.old
-        store.old) buf.old result
-        (lent_of result.listed regs.new cache.new
-        store.new) buf.new
+    ensures { Along image.now program.now q (lent_of q.listed regs.old cache.old store.old) buf.old result
+        (lent_of result.listed regs.new cache.new store.new) buf.new
         × (result.listed.left ≢ 0 → length buf.old < result.listed.len + 32)
         × (result.listed.left ≡ 0 → length image.now ≤ result.at) }
 {

@@ -1,5 +1,5 @@
 -- The record's arrays have the lengths of their types (`Shaped`, D-31).
--- Idea: each field of a value of the record's type is a value of the field's type, and an array's type fixes its length.
+-- Idea: each field of a value of the record's type is a value of the field's type, and an array's type fixes its length. `g` is the cache's.
 use mathlib.Core.Path.{◌≡◌, sym}
 use mathlib.Core.List.{List}
 use lib.ListN.{length}
@@ -19,10 +19,11 @@ pub shaped_by_type : (m : Machine) (vs : List Val) → Is (row T.the_type) m vs 
 shaped_by_type m vs is =
     let f = LL.owed T.the_type T'.the_laws m vs is in
     let regs : length m.regs ≡ 16 = f.1.0.1.0.1 in
-    let full : length m.full ≡ 16 = f.1.1.0.1.0.1 in
-    let dirty : length m.dirty ≡ 16 = f.1.1.1.0.1.0.1 in
-    let block : length m.block ≡ 16 = f.1.1.1.1.0.1.0.1 in
-    let words : length m.words ≡ 128 = f.1.1.1.1.1.0.1.0.1 in
+    let g = f.1.1.0.1.1 in
+    let full : length m.cache.full ≡ 16 = g.0.1.0.1 in
+    let dirty : length m.cache.dirty ≡ 16 = g.1.0.1.0.1 in
+    let block : length m.cache.block ≡ 16 = g.1.1.0.1.0.1 in
+    let words : length m.cache.words ≡ 128 = g.1.1.1.0.1.0.1 in
     record {
       regs = le_of_eq (sym regs);
       full = le_of_eq (sym full);

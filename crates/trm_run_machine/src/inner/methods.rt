@@ -1,11 +1,10 @@
 // The methods of the machine record: a run; one clock; a clock that is a multiplier or divider step, or takes an interrupt.
 // Paper: "Methods on the machine record with mut self: .. each handing the record back".
-// Each takes the record apart, calls the function on its parts, and puts it together again.
+// Each lends the record's registers and cache to the function on its parts, and stores the scalars that come back.
 ghost use Rattle.std.specs.Prelude.{◌≡◌, true, ◌+◌, length};
 ghost use Rattle.trm_word.specs.Fields.{operation};
 ghost use Rattle.trm_reference.specs.Geometry.{paper_geometry};
 ghost use Rattle.trm_reference.specs.Interrupt.{interrupted};
-ghost use Rattle.trm_cache.specs.Cache.{cache};
 ghost use Rattle.trm_core.specs.Record.{gathered, whole, ended, advanced, stepping};
 ghost use Rattle.trm_core.specs.Clock.{clock_of};
 ghost use Rattle.trm_core.specs.Refusals.{clock_refusal, run_refusal};
@@ -47,24 +46,18 @@ impl Machine {
             ≡ run_of paper_geometry program.now (record { machine = record_of self; store = store.old })
             pins.now inputs.now }
     {
-        let scalars = self.scalars;
-        let mut regs = self.regs;
-        let mut full = self.full;
-        let mut dirty = self.dirty;
-        let mut block = self.block;
-        let mut cached = self.words;
         clear::clear_bytes(bytes);
         clear::clear_words(words);
         let began = Going {
-            scalars: scalars,
+            scalars: self.scalars,
             at: 0,
             finished: 0,
         };
         let g = turns::all_turns(
             began,
             program,
-            &mut regs,
-            &mut cache,
+            &mut self.regs,
+            &mut self.cache,
             store,
             pins,
             inputs,
@@ -72,17 +65,9 @@ impl Machine {
             words,
             false,
         );
-        let after = g.scalars;
-        let machine = Machine {
-            scalars: after,
-            regs: regs,
-            full: full,
-            dirty: dirty,
-            block: block,
-            words: cached,
-        };
+        self.scalars = g.scalars;
         Finished {
-            machine: machine,
+            machine: self,
             finished: g.finished,
         }
     }
@@ -117,32 +102,18 @@ impl Machine {
             ≡ clock_of paper_geometry program.now (record { machine = record_of self; store = store.old })
             (record { line_byte = pins; input = input })) }
     {
-        let scalars = self.scalars;
-        let mut regs = self.regs;
-        let mut full = self.full;
-        let mut dirty = self.dirty;
-        let mut block = self.block;
-        let mut cached = self.words;
         let t = one_clock::one_clock(
-            scalars,
+            self.scalars,
             program,
-            &mut regs,
-            &mut cache,
+            &mut self.regs,
+            &mut self.cache,
             store,
             pins,
             input,
         );
-        let after = t.scalars;
-        let machine = Machine {
-            scalars: after,
-            regs: regs,
-            full: full,
-            dirty: dirty,
-            block: block,
-            words: cached,
-        };
+        self.scalars = t.scalars;
         Clock {
-            machine: machine, // as the clock leaves it
+            machine: self, // as the clock leaves it
             refused: Refusal::Accepted,
             byte: t.byte,
             word: t.word,
@@ -155,16 +126,13 @@ impl Machine {
         requires { Steps w self.scalars.running (gathered self.scalars self.regs) × (operation w ≡ 8)
             × (counts_ok self.scalars.counts ≡ true) }
         ensures { record_of result ≡ whole (advanced self.scalars
-            (stepping w (gathered self.scalars self.regs) (self.scalars.running.count + 1)) 0 0) self.regs
-            (cache self.full self.dirty self.block self.words) }
+            (stepping w (gathered self.scalars self.regs) (self.scalars.running.count + 1)) 0 0) self.regs self.cache }
     {
         let c = self.scalars;
-        let regs = self.regs;
-        let a = operands::operand_a(c, &regs, w);
-        let b = operands::operand_b(c, &regs, w);
+        let a = operands::operand_a(c, &self.regs, w);
+        let b = operands::operand_b(c, &self.regs, w);
         let running = steps::multiplier_step(c.running, a, b);
-        let after = scalars::advance(c, running, 0, 0); // one clock more
-        self.scalars = after;
+        self.scalars = scalars::advance(c, running, 0, 0); // one clock more
         self
     }
 
@@ -173,16 +141,13 @@ impl Machine {
         requires { Steps w self.scalars.running (gathered self.scalars self.regs) × (operation w ≡ 9)
             × (counts_ok self.scalars.counts ≡ true) }
         ensures { record_of result ≡ whole (advanced self.scalars
-            (stepping w (gathered self.scalars self.regs) (self.scalars.running.count + 1)) 0 0) self.regs
-            (cache self.full self.dirty self.block self.words) }
+            (stepping w (gathered self.scalars self.regs) (self.scalars.running.count + 1)) 0 0) self.regs self.cache }
     {
         let c = self.scalars;
-        let regs = self.regs;
-        let a = operands::operand_a(c, &regs, w);
-        let b = operands::operand_b(c, &regs, w);
+        let a = operands::operand_a(c, &self.regs, w);
+        let b = operands::operand_b(c, &self.regs, w);
         let running = steps::divider_step(c.running, a, b);
-        let after = scalars::advance(c, running, 0, 0); // a clock more
-        self.scalars = after;
+        self.scalars = scalars::advance(c, running, 0, 0); // a clock more
         self
     }
 
@@ -191,14 +156,9 @@ impl Machine {
         requires { (widths_ok (gathered self.scalars self.regs) ≡ true) × (counts_ok self.scalars.counts ≡ true)
             × (self.scalars.running.phase ≡ 0) }
         ensures { record_of result ≡ whole (ended self.scalars (interrupted (gathered self.scalars self.regs) to))
-            (interrupted (gathered self.scalars self.regs) to).regs
-            (cache self.full self.dirty self.block self.words) }
+            (interrupted (gathered self.scalars self.regs) to).regs self.cache }
     {
-        let c = self.scalars;
-        let mut regs = self.regs;
-        let after = interrupt::take_interrupt(c, &mut regs, to);
-        self.scalars = after;
-        self.regs = regs;
+        self.scalars = interrupt::take_interrupt(self.scalars, &mut self.regs, to);
         self
     }
 }

@@ -24,11 +24,9 @@ pub fn one_clock(
     pins: u8,
     input: u32,
 ) -> Clocked
-    requires { (clock_refusal paper_geometry program.now
-        (record_of (parts c regs.old cache.old)) store.old pins ≡ 0)
+    requires { (clock_refusal paper_geometry program.now (record_of (parts c regs.old cache.old)) store.old pins ≡ 0)
         × Shaped paper_geometry (record_of (parts c regs.old cache.old)) }
-    ensures { made result regs.new cache.new
-        store.new
+    ensures { made result regs.new cache.new store.new
         ≡ clock_of paper_geometry program.now (record {
           machine = record_of (parts c regs.old cache.old);
           store = store.old;
@@ -44,8 +42,7 @@ pub fn one_clock(
         finished: 0,
     };
     let g = turns::all_turns(
-        began, program, regs, cache, store, &alone, &inputs, &mut bytes,
-        &mut outs, false,
+        began, program, regs, cache, store, &alone, &inputs, &mut bytes, &mut outs, false,
     );
     let after = g.scalars;
     Clocked {

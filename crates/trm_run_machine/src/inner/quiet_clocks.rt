@@ -20,11 +20,8 @@ pub fn quiet_clocks(
     pins: &[u8],
 ) -> Going
     requires { Able program.now (lent (parts c regs.old cache.old) store.old) pins.now }
-    ensures { (result.at ≤ length pins.now) × Silent program.now (take result.at pins.now)
-        (lent (parts c regs.old cache.old)
-        store.old)
-        (lent (parts result.scalars regs.new cache.new)
-        store.new) result.finished }
+    ensures { (result.at ≤ length pins.now) × Silent program.now (take result.at pins.now) (lent (parts c regs.old cache.old)
+        store.old) (lent (parts result.scalars regs.new cache.new) store.new) result.finished }
 {
     let n = pins.len();
     let inputs = [0u32; 64];

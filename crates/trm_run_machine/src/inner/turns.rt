@@ -29,13 +29,8 @@ pub fn turn(
 ) -> Going
     requires { At program.now pins.now inputs.now (point g regs.old cache.old
         store.old) bytes.old outs.old × (base.now ≡ charges) × (g.at < length pins.now) }
-    ensures { Turned program.now pins.now inputs.now
-        (point g regs.old cache.old
-        store.old)
-        bytes.old outs.old
-        (point result regs.new cache.new
-        store.new)
-        bytes.new outs.new × Did stops g.at result.at bytes.old bytes.new }
+    ensures { Turned program.now pins.now inputs.now (point g regs.old cache.old store.old) bytes.old outs.old
+        (point result regs.new cache.new store.new) bytes.new outs.new × Did stops g.at result.at bytes.old bytes.new }
 {
     let at = g.at;
     let first = pins[at];
@@ -46,8 +41,7 @@ pub fn turn(
     if c.running.phase != 0 {
         let w = operands::word_at(program, c.pc);
         return flight_turn::flight_turn(
-            g, program, regs, cache, store, w, pins, inputs, bytes, outs, base,
-            stops,
+            g, program, regs, cache, store, w, pins, inputs, bytes, outs, base, stops,
         );
     }
     let to = interrupt::interrupt_chosen(c.status, first);
@@ -83,14 +77,9 @@ pub fn all_turns(
     outs: &mut [u32],
     stops: bool,
 ) -> Going
-    requires { At program.now pins.now inputs.now (point g regs.old cache.old
-        store.old) bytes.old outs.old }
-    ensures { Turned program.now pins.now inputs.now
-        (point g regs.old cache.old
-        store.old)
-        bytes.old outs.old
-        (point result regs.new cache.new
-        store.new)
+    requires { At program.now pins.now inputs.now (point g regs.old cache.old store.old) bytes.old outs.old }
+    ensures { Turned program.now pins.now inputs.now (point g regs.old cache.old store.old) bytes.old outs.old
+        (point result regs.new cache.new store.new)
         bytes.new outs.new × (stops ≡ false → length pins.now ≤ result.at) × (g.at ≤ result.at)
         × (stops ≡ true → bytes.new ≡ bytes.old) }
 {
@@ -98,8 +87,7 @@ pub fn all_turns(
     while g.at < pins.len() {
         let before = g.at;
         g = turn(
-            g, program, regs, cache, store, pins, inputs, bytes, outs, &base,
-            stops,
+            g, program, regs, cache, store, pins, inputs, bytes, outs, &base, stops,
         );
         if no_progress(stops, before, g.at) {
             return g;

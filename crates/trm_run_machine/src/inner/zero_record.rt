@@ -7,6 +7,7 @@ ghost use Rattle.trm_core.specs.Record.{reset_of};
 ghost use Rattle.trm_run_machine.specs.Machine.{record_of};
 
 use crate::machine::Machine;
+use trm_cache::record::Cache;
 use trm_clock_scalars::inner::zero_scalars;
 
 pub fn zero_record(store: &[u32]) -> Machine
@@ -14,12 +15,15 @@ pub fn zero_record(store: &[u32]) -> Machine
     ensures { record_of result ≡ reset_of paper_geometry store.now }
 {
     let scalars = zero_scalars::zero_scalars(store);
-    Machine {
-        scalars: scalars,
-        regs: [0; 16],
+    let cache = Cache {
         full: [0; 16],
         dirty: [0; 16],
         block: [0; 16],
         words: [0; 128],
+    };
+    Machine {
+        scalars,
+        regs: [0; 16],
+        cache,
     }
 }

@@ -65,10 +65,10 @@ fn with_scalar(c: Scalars, which: usize, value: u64) -> Scalars {
 pub fn field(m: Machine, which: usize) -> u64 {
     match which {
         17..=32 => m.regs[which - 17] as u64,
-        33..=48 => m.full[which - 33] as u64,
-        49..=64 => m.dirty[which - 49] as u64,
-        65..=80 => m.block[which - 65] as u64,
-        81..=208 => m.words[which - 81] as u64,
+        33..=48 => m.cache.full[which - 33] as u64,
+        49..=64 => m.cache.dirty[which - 49] as u64,
+        65..=80 => m.cache.block[which - 65] as u64,
+        81..=208 => m.cache.words[which - 81] as u64,
         _ => scalar(m.scalars, which),
     }
 }
@@ -78,10 +78,10 @@ pub fn with_field(m: Machine, which: usize, value: u64) -> Machine {
     let mut next = m;
     match which {
         17..=32 => next.regs[which - 17] = low(value),
-        33..=48 => next.full[which - 33] = (value % 256) as u8,
-        49..=64 => next.dirty[which - 49] = (value % 256) as u8,
-        65..=80 => next.block[which - 65] = (value % 65536) as u16,
-        81..=208 => next.words[which - 81] = low(value),
+        33..=48 => next.cache.full[which - 33] = (value % 256) as u8,
+        49..=64 => next.cache.dirty[which - 49] = (value % 256) as u8,
+        65..=80 => next.cache.block[which - 65] = (value % 65536) as u16,
+        81..=208 => next.cache.words[which - 81] = low(value),
         _ => {
             let c = with_scalar(m.scalars, which, value);
             next.scalars = c;

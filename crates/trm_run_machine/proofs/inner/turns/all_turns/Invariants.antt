@@ -4,7 +4,6 @@ use mathlib.Core.Bool.{true}
 use mathlib.Core.Path.{◌≡◌}
 use Prim.Native.Nat.{◌-◌, ◌≤◌}
 use lib.ListN.{length}
-use Rattle.trm_cache.specs.Cache.{cache}
 use Rattle.trm_run_phases.specs.Reached.{point, Turned}
 use Rattle.trm_run_machine.proofs.inner.turns.all_turns.Given as goal
 

@@ -6,12 +6,12 @@ pub divider_step-running-requires : goal.divider_step-running-requires
 divider_step-running-requires c = rw (c.operand_a-a.ensures, c.operand_b-b.ensures)
     (divides _ _ _ c.requires.0 (λ z. omega (arith, c.requires.1, z)))
 
-pub advance-after-requires : goal.advance-after-requires
-advance-after-requires c = (c.requires.2, omega arith, omega arith)
+pub advance-self-requires : goal.advance-self-requires
+advance-self-requires c = (c.requires.2, omega arith, omega arith)
 
 pub returns : goal.returns
 returns c = rw (
-  c.advance-after.ensures,
+  c.advance-self.ensures,
   c.divider_step-running.ensures,
   c.operand_a-a.ensures,
   c.operand_b-b.ensures,
