@@ -7,6 +7,7 @@ use Rattle.std.specs.Prelude.{ℕ, ◌+◌, ◌≡◌, cond, List, length, take,
 use Rattle.trm_reference.specs.Geometry.{paper_geometry}
 use Rattle.trm_reference.specs.Access.{Answer}
 use Rattle.trm_reference.specs.Trace.{After}
+use Rattle.trm_cache.specs.declared.record.Cache.{Cache}
 use Rattle.trm_core.specs.Record.{Lent}
 use Rattle.trm_core.specs.Refusals.{reset_refusal, clock_refusal, run_refusal, look_refusal, copy_refusal, watch_refusal}
 use Rattle.trm_core.specs.Observe.{SightingHolds}
@@ -38,11 +39,11 @@ abbrev pub with_record : Machine → LentAnswer → ClockAnswer
 with_record m r =
     record { machine = m; number = r.number; byte = r.byte; word = r.word; finished = r.finished }
 
--- the answer of a clock on the parts of a record, together with the arrays after it
-abbrev pub with_parts : Placed → List ℕ → List ℕ → List ℕ → List ℕ → List ℕ → ClockAnswer
-with_parts r rs f d b ws =
+-- the answer of a clock on the parts of a record, together with the registers and the cache after it
+abbrev pub with_parts : Placed → List ℕ → Cache → ClockAnswer
+with_parts r rs ca =
     record {
-      machine = parts r.scalars rs f d b ws;
+      machine = parts r.scalars rs ca;
       number = r.number;
       byte = r.byte;
       word = r.word;

@@ -140,18 +140,7 @@ fn any_run(
     let mut regs = m.regs;
     let mut cache = m.cache;
     let g = board_clocks::board_clocks(
-        c,
-        d,
-        program,
-        &mut regs,
-        &mut cache,
-        store,
-        joined,
-        given,
-        switches,
-        levels,
-        bytes,
-        words,
+        c, d, program, &mut regs, &mut cache, store, joined, given, switches, levels, bytes, words,
     );
     let after = g.scalars;
     let devices = g.devices;

@@ -5,7 +5,7 @@
 --   view G ca s a   memory word a        copy_of   all words
 --   emptied, cleaned, filled, with_word, stored_to   the cache after a change of one line
 --   write_word, fill_word   one clock of a burst      count_dirty, first_dirty, all_emptied   for turning the cache off
-use Rattle.std.specs.Prelude.{ℕ, zero, suc, ◌+◌, ◌-◌, ◌*◌, ◌%◌, Bool, cond, ◌&&◌, List, [], ◌∷◌, length, get_or, set, take, drop, leb, eqb}
+use Rattle.std.specs.Prelude.{ℕ, zero, suc, ◌≡◌, ◌+◌, ◌-◌, ◌*◌, ◌%◌, Bool, cond, ◌&&◌, List, [], ◌∷◌, length, get_or, set, take, drop, leb, eqb}
 use Rattle.trm_word.specs.Condition.{is_set}
 use Rattle.trm_reference.specs.Geometry.{Geometry, block_of, line_of}
 use Rattle.trm_reference.specs.History.{how_many}
@@ -14,6 +14,13 @@ use Rattle.trm_cache.specs.declared.record.Cache.{Cache}
 -- the record of the code: per line full, dirty and block; the words of all lines
 abbrev pub cache : List ℕ → List ℕ → List ℕ → List ℕ → Cache
 cache f d b ws = record { full = f; dirty = d; block = b; words = ws }
+
+-- the arrays are as long as their types in the code say
+pub record Sized (ca : Cache) : Type 0 where
+  pub full : length ca.full ≡ 16
+  pub dirty : length ca.dirty ≡ 16
+  pub block : length ca.block ≡ 16
+  pub words : length ca.words ≡ 128
 
 pub record Line : Type 0 where
   pub full : Bool

@@ -17,9 +17,7 @@ pub fn look(m: Machine, program: &[u32], store: &[u32], address: u32) -> Look
     let c = m.scalars;
     let regs = m.regs;
     let cache = m.cache;
-    let refused = call_refusals::look_refusal(
-        c, program, &regs, &cache, store, address,
-    );
+    let refused = call_refusals::look_refusal(c, program, &regs, &cache, store, address);
     if !record_rows::accepted(refused) {
         return Look {
             refused: refused,
@@ -40,9 +38,7 @@ pub fn copy(m: Machine, program: &[u32], store: &[u32], buffer: &mut [u32]) -> R
     let c = m.scalars;
     let regs = m.regs;
     let cache = m.cache;
-    let refused = call_refusals::copy_refusal(
-        c, program, &regs, &cache, store, buffer,
-    );
+    let refused = call_refusals::copy_refusal(c, program, &regs, &cache, store, buffer);
     if !record_rows::accepted(refused) {
         return refused;
     }

@@ -36,9 +36,7 @@ pub fn clock(m: Machine, program: &[u32], store: &mut [u32], pins: u8, input: u3
     let c = m.scalars;
     let regs = m.regs;
     let cache = m.cache;
-    let refused = call_refusals::clock_refusal(
-        c, program, &regs, &cache, store, pins,
-    );
+    let refused = call_refusals::clock_refusal(c, program, &regs, &cache, store, pins);
     if !record_rows::accepted(refused) {
         return Clock {
             machine: m,

@@ -1,9 +1,7 @@
 // One clock on the parts of a record, in place: checks the arguments and returns the paper's refusal number. The lent entry calls it.
 // Paper: "Later a second entry lends the record itself for one clock, with the same outcome".
-// The scalars go by value. The arrays must have the lengths of their types, which the lent entry knows from the record's type (D-31).
-ghost use Rattle.trm_reference.specs.Geometry.{paper_geometry};
-ghost use Rattle.trm_core.specs.Claims.{Shaped};
-ghost use Rattle.trm_run_machine.specs.Machine.{record_of, parts};
+// The scalars go by value; registers, cache and store are changed in place.
+ghost use Rattle.trm_run_machine.specs.Machine.{parts};
 ghost use Rattle.trm.specs.Promises.{ClockNumbered, with_parts};
 
 use trm_cache::record::Cache;
@@ -30,13 +28,10 @@ pub fn clock(
     pins: u8,
     input: u32,
 ) -> Placed
-    requires { Shaped paper_geometry (record_of (parts c regs.old cache.old)) }
     ensures { ClockNumbered (parts c regs.old cache.old) program.now store.old pins input (with_parts result regs.new cache.new)
         store.new }
 {
-    let refused = call_refusals::clock_refusal(
-        c, program, regs, cache, store, pins,
-    );
+    let refused = call_refusals::clock_refusal(c, program, regs, cache, store, pins);
     let n = refusal_number::number_of(refused);
     if !record_rows::accepted(refused) {
         return Placed {
@@ -47,9 +42,7 @@ pub fn clock(
             finished: 0,
         };
     }
-    let t = one_clock::one_clock(
-        c, program, regs, cache, store, pins, input,
-    );
+    let t = one_clock::one_clock(c, program, regs, cache, store, pins, input);
     let after = t.scalars;
     Placed {
         scalars: after,

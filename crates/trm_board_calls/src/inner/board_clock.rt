@@ -62,9 +62,7 @@ pub fn board_clock(
     let pins = device_reads::pins_byte(d.tick, given);
     let device = device_read::device_read(c, regs, program, store.len() as u64, pins);
     let input = device_reads::reply_of(serial, c.counts.clocks, switches, device);
-    let t = one_clock::one_clock(
-        c, program, regs, cache, store, pins, input,
-    );
+    let t = one_clock::one_clock(c, program, regs, cache, store, pins, input);
     let after = t.scalars;
     let line = line_of(joined, level, given);
     let devices = device_clock::device_clock(d, line, after.counts.clocks, t.byte, t.word);

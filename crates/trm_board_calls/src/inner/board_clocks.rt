@@ -51,14 +51,7 @@ fn quiet_ahead(
     let count = c.counts.clocks;
     let k = stretch::stretch(at, given.len(), count);
     let lines = quiet_devices::line_bytes(d.tick, given, at, k);
-    let h = quiet_clocks::quiet_clocks(
-        c,
-        program,
-        regs,
-        cache,
-        store,
-        &lines[..k],
-    );
+    let h = quiet_clocks::quiet_clocks(c, program, regs, cache, store, &lines[..k]);
     let to = at + h.at;
     let devices = quiet_devices::devices_ahead(
         d, count, joined, given, levels, bytes, outs, at, to,
@@ -161,8 +154,7 @@ pub fn board_clocks(
         );
         if g.at < given.len() {
             g = next_clock(
-                g, program, regs, cache, store, joined, given, switches,
-                levels, bytes, outs,
+                g, program, regs, cache, store, joined, given, switches, levels, bytes, outs,
             );
         }
     }

@@ -20,9 +20,7 @@ fn board_refusal(b: Board, program: &[u32], store: &[u32]) -> Refusal
     let c = m.scalars;
     let regs = m.regs;
     let cache = m.cache;
-    let refused = record_rows::record_refusal(
-        c, program, &regs, &cache, store,
-    );
+    let refused = record_rows::record_refusal(c, program, &regs, &cache, store);
     if !record_rows::accepted(refused) {
         return refused;
     }

@@ -3,7 +3,7 @@
 // Full and dirty are numbers; they are set if they are 1.
 ghost use Rattle.std.specs.Prelude.{◌≡◌, ◌<◌, length};
 ghost use Rattle.trm_reference.specs.Geometry.{paper_geometry};
-ghost use Rattle.trm_cache.specs.Cache.{line_at, holds, view, emptied, cleaned, filled, stored_to};
+ghost use Rattle.trm_cache.specs.Cache.{Sized, line_at, holds, view, emptied, cleaned, filled, stored_to};
 
 use crate::record::Cache;
 
@@ -15,6 +15,11 @@ fn wide(x: u16) -> u64
 }
 
 impl Cache {
+    // Does nothing: the contract says what the types of the arrays fix, for a caller that has the cache behind a reference (D-31).
+    pub fn sized(&self)
+        ensures { Sized self.now }
+    {}
+
     // Whether the line is full.
     pub fn line_full(&self, l: usize) -> bool
         requires { l < 16 }

@@ -8,13 +8,8 @@ ghost use Rattle.trm_cache.specs.Cache.{view, copy_of};
 
 use trm_cache::record::Cache;
 
-
 // The word at an address, taken mod the store's length.
-pub fn look(
-    cache: &Cache,
-    store: &[u32],
-    address: u32,
-) -> u32
+pub fn look(cache: &Cache, store: &[u32], address: u32) -> u32
     requires { store_length_ok (length store.now) ≡ true }
     ensures { result ≡ view paper_geometry cache.now store.now (address % length store.now) }
 {
@@ -23,11 +18,7 @@ pub fn look(
 }
 
 // All words, in address order.
-pub fn copy(
-    cache: &Cache,
-    store: &[u32],
-    buffer: &mut [u32],
-)
+pub fn copy(cache: &Cache, store: &[u32], buffer: &mut [u32])
     requires { length buffer.old ≡ length store.now }
     ensures { buffer.new ≡ copy_of paper_geometry cache.now store.now }
 {

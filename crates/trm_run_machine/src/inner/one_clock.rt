@@ -1,9 +1,8 @@
 // One clock on the parts of a record, in place, as a run of one line byte.
 // Paper: "Later a second entry lends the record itself for one clock, with the same outcome".
-// The scalars go by value; no array is copied. The caller guarantees that the arrays have the lengths of their types (D-31).
+// The scalars go by value; no array is copied.
 ghost use Rattle.std.specs.Prelude.{◌≡◌};
 ghost use Rattle.trm_reference.specs.Geometry.{paper_geometry};
-ghost use Rattle.trm_core.specs.Claims.{Shaped};
 ghost use Rattle.trm_core.specs.Clock.{clock_of};
 ghost use Rattle.trm_core.specs.Refusals.{clock_refusal};
 ghost use Rattle.trm_clock_laws.specs.Made.{made};
@@ -24,14 +23,14 @@ pub fn one_clock(
     pins: u8,
     input: u32,
 ) -> Clocked
-    requires { (clock_refusal paper_geometry program.now (record_of (parts c regs.old cache.old)) store.old pins ≡ 0)
-        × Shaped paper_geometry (record_of (parts c regs.old cache.old)) }
+    requires { clock_refusal paper_geometry program.now (record_of (parts c regs.old cache.old)) store.old pins ≡ 0 }
     ensures { made result regs.new cache.new store.new
         ≡ clock_of paper_geometry program.now (record {
           machine = record_of (parts c regs.old cache.old);
           store = store.old;
         }) (record { line_byte = pins; input = input }) }
 {
+    cache.sized();
     let alone = [pins; 1];
     let inputs = [input; 1];
     let mut bytes = [0u8; 1];
@@ -44,9 +43,8 @@ pub fn one_clock(
     let g = turns::all_turns(
         began, program, regs, cache, store, &alone, &inputs, &mut bytes, &mut outs, false,
     );
-    let after = g.scalars;
     Clocked {
-        scalars: after,
+        scalars: g.scalars,
         byte: bytes[0],
         word: outs[0],
         finished: g.finished,

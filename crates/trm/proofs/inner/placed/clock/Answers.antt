@@ -17,10 +17,7 @@ returns-then-not-accepted c =
     }
 
 pub one_clock-t-requires : goal.one_clock-t-requires
-one_clock-t-requires c = (
-  code-zero c.clock_refusal-refused.ensures c.accepted.ensures c.if-not-accepted.false,
-  c.requires,
-)
+one_clock-t-requires c = code-zero c.clock_refusal-refused.ensures c.accepted.ensures c.if-not-accepted.false
 
 pub returns : goal.returns
 unfolding clock_gives

@@ -8,9 +8,9 @@ use Rattle.trm_board_calls.proofs.inner.board_clocks.board_clocks.Given as goal
 
 abbrev pub invariant-loop-g : goal.invariant-loop-g
 invariant-loop-g l = Running l.program l.joined l.given l.switches
-    (stage (board_at (parts l.initial.g.scalars l.initial.regs l.initial.full l.initial.dirty l.initial.block l.initial.words)
+    (stage (board_at (parts l.initial.g.scalars l.initial.regs l.initial.cache)
     l.initial.g.devices l.initial.store) 0 0 l.initial.levels l.initial.bytes l.initial.outs)
-    (stage (board_at (parts l.g.scalars l.regs l.full l.dirty l.block l.words) l.g.devices l.store) l.g.finished l.g.at l.levels l.bytes
+    (stage (board_at (parts l.g.scalars l.regs l.cache) l.g.devices l.store) l.g.finished l.g.at l.levels l.bytes
     l.outs)
 
 abbrev pub decreases-loop-g : goal.decreases-loop-g
