@@ -19,10 +19,7 @@ reply_of-input-requires c = (
 )
 
 pub one_clock-t-requires : goal.one_clock-t-requires
-one_clock-t-requires c = (
-  ready-core _ _ 0 c.requires _ c.pins_byte-pins.ensures.1,
-  c.requires.shaped,
-)
+one_clock-t-requires c = ready-core _ _ 0 c.requires _ c.pins_byte-pins.ensures.1
 
 pub line_of-line-requires : goal.line_of-line-requires
 line_of-line-requires c =

@@ -1,7 +1,6 @@
 -- Invariant: the first i words are copied (`Copied`). Measure: the words left.
 use Prim.Native.Nat.{◌-◌}
 use lib.ListN.{length}
-use Rattle.trm_cache.specs.Cache.{cache}
 use Rattle.trm_call_inspect.proofs.Laws.Loops.{Copied}
 use Rattle.trm_call_inspect.proofs.inner.memory.copy.Given as goal
 
