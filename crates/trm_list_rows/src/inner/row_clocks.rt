@@ -57,15 +57,7 @@ fn gone_ahead(
         at: 0,
         finished: 0,
     };
-    let h = phase_clock::flight_ahead(
-        g,
-        regs,
-        cache,
-        store,
-        w,
-        &same[..m],
-        base,
-    );
+    let h = phase_clock::flight_ahead(g, regs, cache, store, w, &same[..m], base);
     let ahead = h.scalars;
     Listed {
         scalars: ahead,
@@ -96,9 +88,7 @@ fn goes_on(
         store.new) buf.new × (result.left < l.left) }
 {
     let m = least(l.left, 64); // more clocks than a phase has
-    let gone = gone_ahead(
-        l, program, regs, cache, store, pins, input, base, m,
-    );
+    let gone = gone_ahead(l, program, regs, cache, store, pins, input, base, m);
     if l.left - gone.left == m {
         return gone; // the run ended first
     }
@@ -129,9 +119,7 @@ fn begins(
         store.new) buf.new × (result.left < l.left) }
 {
     let w = operands::word_at(program, l.scalars.pc);
-    let r = first_clock::first_clock(
-        l.scalars, regs, cache, store, w, input, base,
-    );
+    let r = first_clock::first_clock(l.scalars, regs, cache, store, w, input, base);
     listed::went(l, r, w, buf)
 }
 
@@ -179,19 +167,13 @@ fn one_turn(
         store.new) buf.new × (result.left < l.left) }
 {
     if l.scalars.running.phase != 0 {
-        return goes_on(
-            l, program, regs, cache, store, pins, input, base, buf,
-        );
+        return goes_on(l, program, regs, cache, store, pins, input, base, buf);
     }
     let to = interrupt::interrupt_chosen(l.scalars.status, pins);
     if to != 0 {
-        return interrupts(
-            l, program, regs, cache, store, pins, input, to, buf,
-        );
+        return interrupts(l, program, regs, cache, store, pins, input, to, buf);
     }
-    begins(
-        l, program, regs, cache, store, pins, input, base, buf,
-    )
+    begins(l, program, regs, cache, store, pins, input, base, buf)
 }
 
 // Runs the clocks of a run until none is left or the buffer has no room for a row.
@@ -218,9 +200,7 @@ pub fn list_clocks(
         if buf.len() - g.len < 32 {
             return g;
         }
-        g = one_turn(
-            g, program, regs, cache, store, pins, input, base, buf,
-        );
+        g = one_turn(g, program, regs, cache, store, pins, input, base, buf);
     }
     g
 }

@@ -131,16 +131,7 @@ pub fn next_piece(
         pins: l.pins,
         input: l.input,
     };
-    let r = runs::list_runs(
-        q,
-        image,
-        program,
-        &mut regs,
-        &mut cache,
-        store,
-        &base,
-        buf,
-    );
+    let r = runs::list_runs(q, image, program, &mut regs, &mut cache, store, &base, buf);
     let end = finish::put_last(r, buf);
     let listed = r.listed;
     let after = listed.scalars;

@@ -66,9 +66,7 @@ fn run_clocks(
             len: l.len,
         };
     }
-    row_clocks::list_clocks(
-        l, program, regs, cache, store, pins, input, base, buf,
-    )
+    row_clocks::list_clocks(l, program, regs, cache, store, pins, input, base, buf)
 }
 
 // Reads the next record, a run, from the nine bytes of its payload.
@@ -125,9 +123,7 @@ fn run_here(
         × (result.listed.left ≢ 0 → length buf.old < result.listed.len + 32) × (result.at ≡ q.at) }
 {
     let l = q.listed;
-    let listed = run_clocks(
-        l, program, regs, cache, store, q.pins, q.input, base, buf,
-    );
+    let listed = run_clocks(l, program, regs, cache, store, q.pins, q.input, base, buf);
     Place {
         listed: listed,
         at: q.at,
@@ -154,17 +150,13 @@ pub fn list_runs(
         × (result.listed.left ≢ 0 → length buf.old < result.listed.len + 32)
         × (result.listed.left ≡ 0 → length image.now ≤ result.at) }
 {
-    let mut p = run_here(
-        q, image, program, regs, cache, store, base, buf,
-    );
+    let mut p = run_here(q, image, program, regs, cache, store, base, buf);
     while p.at < image.len() {
         if p.listed.left != 0 {
             return p;
         }
         let next = next_run(p, image);
-        p = run_here(
-            next, image, program, regs, cache, store, base, buf,
-        );
+        p = run_here(next, image, program, regs, cache, store, base, buf);
     }
     p
 }

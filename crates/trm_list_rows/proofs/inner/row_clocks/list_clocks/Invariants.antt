@@ -1,5 +1,4 @@
 -- Invariant: `Onward` from the start of the call to here. Measure: the clocks left of the run.
-use Rattle.trm_cache.specs.Cache.{cache}
 use Rattle.trm_list_rows.specs.Onward.{lent_of, Onward}
 use Rattle.trm_list_rows.proofs.inner.row_clocks.list_clocks.Given as goal
 

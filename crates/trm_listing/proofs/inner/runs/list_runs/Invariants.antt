@@ -2,7 +2,6 @@
 use mathlib.Core.Logic.{◌≢◌}
 use Prim.Native.Nat.{◌+◌, ◌-◌, ◌<◌}
 use lib.ListN.{length}
-use Rattle.trm_cache.specs.Cache.{cache}
 use Rattle.trm_list_rows.specs.Onward.{lent_of}
 use Rattle.trm_listing.specs.Rest.{Along}
 use Rattle.trm_listing.proofs.inner.runs.list_runs.Given as goal
