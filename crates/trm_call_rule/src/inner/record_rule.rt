@@ -78,7 +78,7 @@ fn divider_at(c: Scalars, regs: &[u32; 16], w: u32, k: u64) -> Divider
     }
     let a = trm_clock_operands::inner::operands::operand_a(c, regs, w);
     let b = trm_clock_operands::inner::operands::operand_b(c, regs, w);
-    trm_alu::inner::divide::after(a, b, k)
+    Divider::after(a, b, k)
 }
 
 // "a multiplier or divider register other than stated"; in phase 1 the count is at most 32 by the clause checked before.

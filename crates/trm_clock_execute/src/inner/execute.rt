@@ -12,6 +12,7 @@ ghost use Rattle.trm_reference.specs.Charge.{is_stepped};
 ghost use Rattle.trm_core.specs.Record.{gathered, ended, in_phase, product_at, remainder_at, quotient_at};
 ghost use Rattle.trm_core.specs.Rule.{widths_ok, counts_ok};
 
+use trm_alu::inner::divide::Divider;
 use trm_core::record::{Running, Scalars};
 
 // R.d and H after MUL and DIV, 8 and 9.
@@ -115,7 +116,11 @@ fn outcome_of(running: Running, op: u64, a: u32, b: u32) -> Outcome
             high: (running.product / 0x1_0000_0000) as u32,
         };
     }
-    let d = trm_alu::inner::divide::finish(running.remainder, running.quotient, a, b);
+    let unit = Divider {
+        rem: running.remainder,
+        quot: running.quotient,
+    };
+    let d = unit.finish(a, b);
     Outcome {
         word: d.quotient,
         high: d.remainder,

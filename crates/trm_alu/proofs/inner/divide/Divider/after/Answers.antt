@@ -2,7 +2,7 @@
 use Rattle.std.proofs.Common.{◌-◌, ◌/◌, ◌^◌, div-le_self, arith}
 use lib.Pow.{shr_le}
 use Rattle.trm_alu.proofs.Laws.Division.{above0-no, above0-yes, magnitude-le, registers-none, div-closed}
-use Rattle.trm_alu.proofs.inner.divide.after.Goals as goal
+use Rattle.trm_alu.proofs.inner.divide.Divider.after.Goals as goal
 
 pub returns-then-not-above0 : goal.returns-then-not-above0
 returns-then-not-above0 c =
@@ -28,4 +28,4 @@ overflow_add-result c =
 pub returns : goal.returns
 returns c =
     let p = above0-yes _ _ c.above0.ensures c.if-not-above0.false in
-    div-closed c.args.a c.args.b p.0 p.1 c.args.k _ c.requires c.magnitude-m.ensures
+    rw c.from-w.ensures (div-closed c.args.a c.args.b p.0 p.1 c.args.k _ c.requires c.magnitude-m.ensures)

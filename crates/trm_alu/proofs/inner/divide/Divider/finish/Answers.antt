@@ -4,7 +4,7 @@ use Rattle.trm_alu.specs.Divide.{above0, div_rem, div_quot}
 use Rattle.trm_alu.proofs.Laws.Division.{above0-no, above0-yes}
 use Rattle.trm_alu.proofs.Laws.Quotient.{Ended, rem_lt, quot_le}
 use Rattle.trm_alu.proofs.Laws.Quotient.{finish-none, finish-plus, finish-exact, finish_inexact}
-use Rattle.trm_alu.proofs.inner.divide.finish.Goals as goal
+use Rattle.trm_alu.proofs.inner.divide.Divider.finish.Goals as goal
 
 ended : (t : Bool) (a b r q : ℕ) → b < 2 ^ 32 → t ≡ above0 a → t ≡ true → (r ≡ div_rem a b 32) × (q ≡ div_quot a b 32)
     → Ended a b r q
@@ -25,18 +25,16 @@ pub returns-then-b-lt2147483648 : goal.returns-then-b-lt2147483648
 returns-then-b-lt2147483648 c = finish-plus (ended _ _ _ _ _ c.ranges.b.fits c.above0.ensures c.if-not-above0.false c.requires)
     c.if-b-lt2147483648.true
 
-pub overflow_sub-down : goal.overflow_sub-down
-overflow_sub-down c = omega (arith, quot_le (ended _ _ _ _ _ c.ranges.b.fits c.above0.ensures c.if-not-above0.false c.requires))
-
-pub overflow_sub-rest : goal.overflow_sub-rest
-overflow_sub-rest c = le_of_lt (rem_lt (ended _ _ _ _ _ c.ranges.b.fits c.above0.ensures c.if-not-above0.false c.requires))
+pub overflow_sub-result : goal.overflow_sub-result
+overflow_sub-result c = le_of_lt (rem_lt (ended _ _ _ _ _ c.ranges.b.fits c.above0.ensures c.if-not-above0.false c.requires))
 
 pub returns-then-r-eq0 : goal.returns-then-r-eq0
 returns-then-r-eq0 c =
-    ap (λ (q : ℕ). record { quotient = q; remainder = 0 }) c.wrapping_add_u32-negated.ensures.value
+    ap (λ (q : ℕ). record { quotient = q; remainder = 0 })
+    (omega (arith, quot_le (ended _ _ _ _ _ c.ranges.b.fits c.above0.ensures c.if-not-above0.false c.requires)))
     ∙ finish-exact (ended _ _ _ _ _ c.ranges.b.fits c.above0.ensures c.if-not-above0.false c.requires) c.if-b-lt2147483648.false
     (omega (arith, c.if-r-eq0.true))
 
-pub returns : goal.returns
-returns c = finish_inexact (ended _ _ _ _ _ c.ranges.b.fits c.above0.ensures c.if-not-above0.false c.requires) c.if-b-lt2147483648.false
+pub returns-else-r-eq0 : goal.returns-else-r-eq0
+returns-else-r-eq0 c = finish_inexact (ended _ _ _ _ _ c.ranges.b.fits c.above0.ensures c.if-not-above0.false c.requires) c.if-b-lt2147483648.false
     c.if-r-eq0.false
