@@ -7,6 +7,7 @@ ghost use Rattle.trm_reference.specs.Interrupt.{stalled, interrupt_raised, inter
 ghost use Rattle.trm_core.specs.Record.{gathered, ended};
 ghost use Rattle.trm_core.specs.Rule.{widths_ok, counts_ok};
 
+use crate::inner::scalars;
 use trm_core::record::Scalars;
 
 // Stall, bit 2 of the line byte.
@@ -16,40 +17,29 @@ pub fn is_stalled(pins: u8) -> bool
     pins / 4 % 2 == 1
 }
 
-// Interrupt line 0 is enabled and high.
-fn raised_first(status: u64, pins: u8) -> bool
-    ensures { result ≡ interrupt_raised 0 status pins }
+// An interrupt line is enabled and high.
+fn is_raised(line: u32, status: u64, pins: u8) -> bool
+    requires { line ≤ 1 }
+    ensures { result ≡ interrupt_raised line status pins }
 {
-    if status % 2 != 1 {
-        return false;
-    }
-    pins % 2 == 1
-}
-
-// Interrupt line 1 is enabled and high.
-fn raised_second(status: u64, pins: u8) -> bool
-    ensures { result ≡ interrupt_raised 1 status pins }
-{
-    if status / 2 % 2 != 1 {
-        return false;
-    }
-    pins / 2 % 2 == 1
+    (status >> line) % 2 == 1 && (pins >> line) % 2 == 1
 }
 
 // The PC of the interrupt taken, 2 or 3; 0 if none is taken.
+// A number and no Option, as in the definition that both machines cite; a loop over clocks then tests one register.
 pub fn interrupt_chosen(status: u64, pins: u8) -> u64
     ensures { (result ≡ interrupt_chosen status pins) × (result < 4) }
 {
     if status / 4 % 2 == 1 {
         return 0;
     }
-    if raised_first(status, pins) {
-        return 2;
+    if is_raised(0, status, pins) {
+        2
+    } else if is_raised(1, status, pins) {
+        3
+    } else {
+        0
     }
-    if raised_second(status, pins) {
-        return 3;
-    }
-    0
 }
 
 // The status with its mode bit replaced.
@@ -74,11 +64,10 @@ pub fn take_interrupt(c: Scalars, regs: &mut [u32; 16], to: u64) -> Scalars
     ensures { (result ≡ ended c (interrupted (gathered c regs.old) to))
         × (regs.new ≡ (interrupted (gathered c regs.old) to).regs) }
 {
-    let saved = saved_word(c);
-    regs[15] = saved;
-    let mut next = crate::inner::scalars::settle(c);
-    next.pc = to;
-    let status = with_mode(1, c.status);
-    next.status = status;
-    next
+    regs[15] = saved_word(c);
+    Scalars {
+        pc: to,
+        status: with_mode(1, c.status),
+        ..scalars::settle(c)
+    }
 }
