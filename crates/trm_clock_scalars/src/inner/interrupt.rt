@@ -11,6 +11,7 @@ use crate::inner::scalars;
 use trm_core::record::Scalars;
 
 // Stall, bit 2 of the line byte.
+#[tactic(auto, unfolding(trm_reference::specs::Interrupt::stalled))]
 pub fn is_stalled(pins: u8) -> bool
     ensures { result ≡ stalled pins }
 {
@@ -18,6 +19,7 @@ pub fn is_stalled(pins: u8) -> bool
 }
 
 // An interrupt line is enabled and high.
+#[tactic(auto, unfolding(trm_reference::specs::Interrupt::interrupt_raised))]
 fn is_raised(line: u32, status: u64, pins: u8) -> bool
     requires { line ≤ 1 }
     ensures { result ≡ interrupt_raised line status pins }
@@ -27,6 +29,7 @@ fn is_raised(line: u32, status: u64, pins: u8) -> bool
 
 // The PC of the interrupt taken, 2 or 3; 0 if none is taken.
 // A number and no Option, as in the definition that both machines cite; a loop over clocks then tests one register.
+#[tactic(auto, unfolding(trm_reference::specs::Interrupt::interrupt_chosen))]
 pub fn interrupt_chosen(status: u64, pins: u8) -> u64
     ensures { (result ≡ interrupt_chosen status pins) × (result < 4) }
 {
@@ -43,6 +46,7 @@ pub fn interrupt_chosen(status: u64, pins: u8) -> u64
 }
 
 // The status with its mode bit replaced.
+#[tactic(auto, unfolding(trm_reference::specs::Visible::with_mode))]
 pub fn with_mode(mode: u64, status: u64) -> u64
     requires { mode ≤ 1 }
     ensures { result ≡ with_mode mode status }
@@ -51,6 +55,7 @@ pub fn with_mode(mode: u64, status: u64) -> u64
 }
 
 // The word saved in bank 1's R7: flags and PC.
+#[tactic(auto, unfolding(trm_reference::specs::Interrupt::saved_word, trm_core::specs::Rule::widths_ok))]
 fn saved_word(c: Scalars) -> u32
     requires { widths_ok (gathered c []) ≡ true }
     ensures { result ≡ saved_word (gathered c []) }
@@ -59,6 +64,7 @@ fn saved_word(c: Scalars) -> u32
 }
 
 // The clock that takes the interrupt.
+#[tactic(auto, unfolding(trm_reference::specs::Interrupt::interrupted, trm_reference::specs::Interrupt::saved_word, trm_core::specs::Rule::widths_ok))]
 pub fn take_interrupt(c: Scalars, regs: &mut [u32; 16], to: u64) -> Scalars
     requires { (widths_ok (gathered c regs.old) ≡ true) × (counts_ok c.counts ≡ true) }
     ensures { (result ≡ ended c (interrupted (gathered c regs.old) to))

@@ -21,6 +21,7 @@ pub fn in_phase(phase: u64, count: u64) -> Running
 }
 
 // A clock that is not the instruction's last: the new `running`, and the refills and write-backs it finished.
+#[tactic(auto, unfolding(trm_core::specs::Rule::counts_ok))]
 pub fn advance(mut c: Scalars, running: Running, refilled: u64, written: u64) -> Scalars
     requires { (counts_ok c.counts ≡ true) × (refilled ≤ 1) × (written ≤ 1) }
     ensures { result ≡ advanced c running refilled written }
@@ -33,6 +34,7 @@ pub fn advance(mut c: Scalars, running: Running, refilled: u64, written: u64) ->
 }
 
 // A held clock.
+#[tactic(auto, unfolding(trm_core::specs::Rule::counts_ok))]
 pub fn hold(mut c: Scalars) -> Scalars
     requires { counts_ok c.counts ≡ true }
     ensures { result ≡ waited c }
@@ -43,6 +45,7 @@ pub fn hold(mut c: Scalars) -> Scalars
 }
 
 // A clock after which nothing is in flight: the end of an instruction or an interrupt.
+#[tactic(auto, unfolding(trm_core::specs::Rule::counts_ok))]
 pub fn settle(mut c: Scalars) -> Scalars
     requires { counts_ok c.counts ≡ true }
     ensures { result ≡ ended c (gathered c []) }
@@ -53,6 +56,7 @@ pub fn settle(mut c: Scalars) -> Scalars
 }
 
 // The same where nothing was in flight before.
+#[tactic(auto, unfolding(trm_core::specs::Rule::counts_ok))]
 pub fn tick(mut c: Scalars) -> Scalars
     requires { (counts_ok c.counts ≡ true) × (c.running ≡ in_phase 0 0) }
     ensures { result ≡ ended c (gathered c []) }

@@ -19,6 +19,7 @@ fn no_counts() -> Counts
     }
 }
 
+#[tactic(auto, unfolding(trm_core::specs::Record::reset_of))]
 pub fn zero_scalars(store: &[u32]) -> Scalars
     requires { length store.now < 2 ^ 32 }
     ensures { result ≡ (reset_of paper_geometry store.now).scalars }
