@@ -31,4 +31,3 @@ shl-next x i j n e =
     ∙ add-mul (x / 2 ^ i % 2 * 2 ^ i) (x % 2 ^ i) (2 ^ j)
     ∙ ap (λ (y : ℕ). y + x % 2 ^ i * 2 ^ j)
     (mul_assoc (x / 2 ^ i % 2) (2 ^ i) (2 ^ j) ∙ ap (λ (y : ℕ). x / 2 ^ i % 2 * y) (pow-split i j n e))
-

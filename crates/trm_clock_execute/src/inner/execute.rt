@@ -165,7 +165,7 @@ pub fn long(c: Scalars, regs: &mut [u32; 16], w: u32) -> Scalars
 }
 
 // 11 with bit 10 clear: sets the status.
-#[tactic(auto, unfolding(trm_reference::specs::Execute::execute, trm_reference::specs::Execute::status_set, trm_core::specs::Rule::widths_ok))]
+#[tactic(auto, unfolding(trm_reference::specs::Execute::execute, trm_reference::specs::Execute::status_set))]
 pub fn set_status(c: Scalars, regs: &[u32; 16], w: u32) -> Scalars
     requires { (widths_ok (gathered c regs.now) ≡ true) × (counts_ok c.counts ≡ true) × (operation w ≡ 11)
         × (bit 10 w ≢ 1) }
@@ -197,7 +197,7 @@ fn return_from(c: Scalars, from: u32) -> Scalars
 }
 
 // 11 with bit 10 set: R.s is read before R.d is written.
-#[tactic(auto, unfolding(trm_reference::specs::Execute::execute, trm_reference::specs::Execute::jumped, trm_reference::specs::Execute::returned, trm_core::specs::Rule::widths_ok))]
+#[tactic(auto, unfolding(trm_reference::specs::Execute::execute, trm_reference::specs::Execute::jumped))]
 pub fn jump(c: Scalars, regs: &mut [u32; 16], w: u32) -> Scalars
     requires { (widths_ok (gathered c regs.old) ≡ true) × (counts_ok c.counts ≡ true) × (operation w ≡ 11)
         × (bit 10 w ≡ 1) }
@@ -250,7 +250,7 @@ fn branch_target(pc: u64, offset: u32) -> u64
 }
 
 // 14, the branch taken.
-#[tactic(auto, unfolding(trm_reference::specs::Execute::execute, trm_reference::specs::Execute::branched, trm_core::specs::Rule::widths_ok))]
+#[tactic(auto, unfolding(trm_reference::specs::Execute::execute, trm_reference::specs::Execute::branched))]
 pub fn branch(c: Scalars, regs: &[u32; 16], w: u32) -> Scalars
     requires { (widths_ok (gathered c regs.now) ≡ true) × (counts_ok c.counts ≡ true) × (operation w ≡ 14)
         × (branch_taken w (gathered c regs.now) ≡ true) }

@@ -64,7 +64,7 @@ fn saved_word(c: Scalars) -> u32
 }
 
 // The clock that takes the interrupt.
-#[tactic(auto, unfolding(trm_reference::specs::Interrupt::interrupted, trm_reference::specs::Interrupt::saved_word, trm_core::specs::Rule::widths_ok))]
+#[tactic(auto, unfolding(trm_reference::specs::Interrupt::interrupted, trm_reference::specs::Interrupt::saved_word))]
 pub fn take_interrupt(c: Scalars, regs: &mut [u32; 16], to: u64) -> Scalars
     requires { (widths_ok (gathered c regs.old) ≡ true) × (counts_ok c.counts ≡ true) }
     ensures { (result ≡ ended c (interrupted (gathered c regs.old) to))

@@ -42,7 +42,7 @@ pub fn read_clock(mut s: Serial) -> Serial
 }
 
 // A clock in which the core writes the serial data: if the transmitter is free, the word's low byte is accepted.
-#[tactic(auto, unfolding(crate::specs::Serial::left_after, crate::specs::Serial::sent_after, crate::specs::Serial::ready_after, crate::specs::Timing::frame))]
+#[tactic(auto, unfolding(crate::specs::Serial::left_after, crate::specs::Serial::sent_after, crate::specs::Serial::ready_after))]
 pub fn write_clock(mut s: Serial, word: u32) -> Serial
     ensures { result ≡ accessed paper_timing (writes word) s }
 {

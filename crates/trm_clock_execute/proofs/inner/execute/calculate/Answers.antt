@@ -19,8 +19,7 @@ returns c =
     let e = execute-arithmetic c.args.w (gathered c.args.c c.args.regs.now) 0 c.requires.3 in
     let b = c.operand_b-b.ensures in
     let a = c.operand_a-a.ensures in
-    let x = c.short_result-x.ensures in
-    (
+    let x = c.short_result-x.ensures in (
       c.finish.ensures.0 ∙ rw (e, u.0, u.1, c.tick.ensures, c.flags_after-flags.ensures, x, c.requires.5, a, b),
       c.finish.ensures.1 ∙ rw (e, u.0, u.1, c.tick.ensures, x, c.requires.5, a, b),
     )

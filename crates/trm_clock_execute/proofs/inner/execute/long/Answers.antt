@@ -22,8 +22,7 @@ returns c =
     let e = execute-arithmetic c.args.w (gathered c.args.c c.args.regs.now) 0 (stepped-few c.args.w c.requires.2) in
     let b = c.operand_b-b.ensures in
     let a = c.operand_a-a.ensures in
-    let out = c.outcome_of-out.ensures c.args.c.h in
-    (
+    let out = c.outcome_of-out.ensures c.args.c.h in (
       c.finish.ensures.0 ∙ rw (e, c.settle.ensures, c.flags_after-flags.ensures, out, a, b),
       c.finish.ensures.1 ∙ rw (e, c.settle.ensures, out, a, b),
     )

@@ -36,5 +36,6 @@ returns-then-r-eq0 c =
     (omega (arith, c.if-r-eq0.true))
 
 pub returns-else-r-eq0 : goal.returns-else-r-eq0
-returns-else-r-eq0 c = finish_inexact (ended _ _ _ _ _ c.ranges.b.fits c.above0.ensures c.if-not-above0.false c.requires) c.if-b-lt2147483648.false
+returns-else-r-eq0 c = finish_inexact (ended _ _ _ _ _ c.ranges.b.fits c.above0.ensures c.if-not-above0.false c.requires)
+    c.if-b-lt2147483648.false
     c.if-r-eq0.false
