@@ -1,4 +1,4 @@
--- `execute` by operation: an equation for each.
+-- `execute` by operation: equations for 0 to 10, for LD and ST, and for a branch that is not taken.
 -- Idea: once the operation is known, every test of `execute` computes.
 use Prim.Native.Nat.{ℕ, ◌<◌}
 use mathlib.Core.Path.{◌≡◌, refl, sym, ap, ◌∙◌}
@@ -8,20 +8,9 @@ use lib.Dec.{eqb}
 use borrow.Author.Tests.{lt-ltb, ne_eqb, eqb-true}
 use native.Mathlib.Omega.{arith}
 use Rattle.trm_laws.proofs.Tests.{clash}
-use Rattle.trm_word.specs.Fields.{operation, bit, destination, branch_offset}
+use Rattle.trm_word.specs.Fields.{operation, destination}
 use Rattle.trm_reference.specs.Visible.{Visible, next_pc}
-use Rattle.trm_reference.specs.Execute.{
-  execute,
-  calculated,
-  status_set,
-  jumped,
-  went_to,
-  wrote_to,
-  branch_taken,
-  branch_target,
-  branched,
-  called,
-}
+use Rattle.trm_reference.specs.Execute.{execute, calculated, went_to, wrote_to, branch_taken, branched}
 use Rattle.trm_reference.specs.Charge.{is_stepped}
 
 module _ (w : ℕ) where
@@ -52,14 +41,6 @@ module _ (w : ℕ) (v : Visible) (x : ℕ) where
   unfolding execute
   execute-arithmetic o = rw (lt-ltb _ _ o)
 
-  pub execute-status : operation w ≡ 11 → bit 10 w ≢ 1 → execute w v x ≡ status_set w v
-  unfolding execute
-  execute-status o b = rw (o, ne_eqb (bit 10 w) 1 b)
-
-  pub execute-jump : operation w ≡ 11 → bit 10 w ≡ 1 → execute w v x ≡ jumped w v
-  unfolding execute
-  execute-jump o b = rw (o, b)
-
   pub execute-load : operation w ≡ 12 → execute w v x ≡ wrote_to v (next_pc v.pc) (destination w) x
   unfolding execute
   execute-load o = rw o
@@ -71,11 +52,3 @@ module _ (w : ℕ) (v : Visible) (x : ℕ) where
   pub execute-not_taken : operation w ≡ 14 → branch_taken w v ≡ false → execute w v x ≡ went_to v (next_pc v.pc)
   unfolding execute branched
   execute-not_taken o t = rw (o, t)
-
-  pub execute-taken : operation w ≡ 14 → branch_taken w v ≡ true → execute w v x ≡ went_to v (branch_target v.pc (branch_offset w))
-  unfolding execute branched
-  execute-taken o t = rw (o, t)
-
-  pub execute-call : operation w ≡ 15 → execute w v x ≡ called w v
-  unfolding execute
-  execute-call o = rw o

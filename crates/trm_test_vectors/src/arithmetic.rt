@@ -6,7 +6,7 @@ ghost use Rattle.trm_alu.specs.Divide.{divided};
 
 use std::io;
 use trm_alu::inner::divide::{Divided, Divider};
-use trm_alu::inner::{bits, divide, flags, multiply};
+use trm_alu::inner::{bits, flags, multiply};
 use trm_test_cases::inner::print;
 
 // The multiplier's register after `steps` steps.
@@ -22,10 +22,10 @@ fn multiplied(a: u32, b: u32, steps: u32) -> u64 {
 
 // The divider's registers after `steps` steps.
 fn divided_so_far(a: u32, b: u32, steps: u32) -> Divider {
-    let mut d = divide::start(a, b);
+    let mut d = Divider::start(a, b);
     let mut left = steps as usize;
     while 0 < left {
-        d = divide::step(d.rem, d.quot, a);
+        d = d.step(a);
         left -= 1;
     }
     d
@@ -35,13 +35,13 @@ fn divided_so_far(a: u32, b: u32, steps: u32) -> Divider {
 fn divide_whole(a: u32, b: u32) -> Divided
     ensures { result ≡ divided a b }
 {
-    let mut d = divide::start(a, b);
+    let mut d = Divider::start(a, b);
     let mut k: usize = 0;
     while k < 32 {
-        d = divide::step(d.rem, d.quot, a);
+        d = d.step(a);
         k += 1;
     }
-    divide::finish(d.rem, d.quot, a, b)
+    d.finish(a, b)
 }
 
 // Prints R.d and the four flags; `before` has C and V before the operation in bits 1 and 0.
@@ -92,7 +92,7 @@ pub fn divider(rt: &impl Print, steps: u32, b: u32, a: u32) -> io::Result<()> {
     print::hex(rt, d.rem, 8)?;
     print::hex(rt, d.quot, 8)?;
     if steps <= 32 {
-        let e = divide::after(a, b, steps as u64);
+        let e = Divider::after(a, b, steps as u64);
         print::hex(rt, e.rem, 8)?;
         print::hex(rt, e.quot, 8)?;
     }

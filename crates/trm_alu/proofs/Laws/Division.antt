@@ -1,7 +1,7 @@
 -- The divider's two registers: before the first step, after k steps by a shift, and from one step to the next.
 -- t is the top k bits of |B|; a step appends one bit to t, and one bit to the quotient of t by A.
 --   above0-pos, -true                  when A is above 0       quotient_digits   q × a + r has quotient q, remainder r
---   magnitude, -le, -plus, -minus      |B|                     rem_is, quot_is   the registers for A above 0
+--   magnitude, -le                     |B|                     rem_is, quot_is   the registers for A above 0
 --   registers-none, div-start, div-closed, div-step            both 0 for A not above 0; before, after k, one step more
 --   taken-lt                           how many bits t has
 use Rattle.std.proofs.Common.{◌≡◌, ℕ, ◌+◌, ◌-◌, ◌*◌, ◌/◌, ◌%◌, ◌^◌, ◌<◌, ◌≤◌, Bool, true, false, cond, ltb, nat_abs, sym, refl, ap, ◌∙◌}
@@ -65,20 +65,6 @@ magnitude-le b h = go (sign b h)
   where
     go : Sign b → nat_abs (signed b) ≤ 2 ^ 31
     go (plus m hm i s p) = rw s (omega arith)
-    go (minus m hm i s p) = rw s (omega arith)
-
-pub magnitude-plus : (b : ℕ) → b < 2 ^ 31 → b ≡ magnitude b
-magnitude-plus b h = go (sign b (omega arith))
-  where
-    go : Sign b → b ≡ nat_abs (signed b)
-    go (plus m hm i s p) = rw s (sym i)
-    go (minus m hm i s p) = absurd (omega arith)
-
-pub magnitude-minus : (b : ℕ) → 2 ^ 31 ≤ b → b < 2 ^ 32 → 2 ^ 32 - b ≡ magnitude b
-magnitude-minus b h l = go (sign b l)
-  where
-    go : Sign b → 2 ^ 32 - b ≡ nat_abs (signed b)
-    go (plus m hm i s p) = absurd (omega arith)
     go (minus m hm i s p) = rw s (omega arith)
 
 -- ---- the registers

@@ -1,11 +1,11 @@
 -- Numbers mod a power of two: shifts to the left, and differences that wrap.
 -- 2^n is 2^i × 2^j for i + j = n, so a left shift by j mod 2^n is the remainder mod 2^i, shifted by j.
---   pow-split, mul_pow_next   a power as a product       sub-wrapped   the value of a wrapping difference
+--   pow-split, mul_pow_next   a power as a product
 --   shl_mod, parts-lt         the value of a shift, and a bound with a number below 2^j added
 --   shl-next                  the value of a shift of one bit more
-use Rattle.std.proofs.Common.{◌≡◌, ℕ, ◌+◌, ◌-◌, ◌*◌, ◌/◌, ◌%◌, ◌^◌, ◌<◌, ◌≤◌, sym, ap, ◌∙◌, subst, add-zero, mod-lt, mod-eq_of_lt}
-use Rattle.std.proofs.Common.{mul_assoc, add-mul, arith, pow_pos, pow-add}
-use native.Mathlib.Nat.{mod-add-mod, add-mod_right, mul-mod_left}
+use Rattle.std.proofs.Common.{◌≡◌, ℕ, ◌+◌, ◌*◌, ◌/◌, ◌%◌, ◌^◌, ◌<◌, sym, ap, ◌∙◌, subst, add-zero, mod-lt}
+use Rattle.std.proofs.Common.{mul_assoc, add-mul, pow_pos, pow-add}
+use native.Mathlib.Nat.{mul-mod_left}
 use lib.Arith.{digits_lt}
 use lib.Pow.{mod-pow-add, shl-shr}
 
@@ -31,14 +31,3 @@ shl-next x i j n e =
     ∙ add-mul (x / 2 ^ i % 2 * 2 ^ i) (x % 2 ^ i) (2 ^ j)
     ∙ ap (λ (y : ℕ). y + x % 2 ^ i * 2 ^ j)
     (mul_assoc (x / 2 ^ i % 2) (2 ^ i) (2 ^ j) ∙ ap (λ (y : ℕ). x / 2 ^ i % 2 * y) (pow-split i j n e))
-
--- r is the number that gives y mod m when x is added to it
-pub sub-wrapped : (m x y r : ℕ) → x ≤ m → r < m → (r + x) % m ≡ y → r ≡ (y + (m - x)) % m
-sub-wrapped m x y r hx hr e =
-    let s : r + x + (m - x) ≡ r + m = omega arith in
-    sym
-    (ap (λ (z : ℕ). (z + (m - x)) % m) (sym e)
-    ∙ mod-add-mod (r + x) m (m - x)
-    ∙ ap (λ (z : ℕ). z % m) s
-    ∙ add-mod_right r m
-    ∙ mod-eq_of_lt hr)

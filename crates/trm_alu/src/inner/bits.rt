@@ -8,14 +8,11 @@ ghost use Rattle.trm_alu.specs.Results.{short_result, ror};
 pub fn rotate(a: u32, b: u32) -> u32
     ensures { result ≡ ror a b }
 {
-    let places = a % 32;
-    if places == 0 {
-        return b;
-    }
-    b >> places | b << (32 - places)
+    b.rotate_right(a)
 }
 
 // The result of operation 0 to 7, or of 10; not called for 8 and 9.
+#[tactic(auto, unfolding(crate::specs::Results::short_result))]
 pub fn short_result(operation: u64, a: u32, b: u32) -> u32
     ensures { result ≡ short_result operation a b }
 {

@@ -13,31 +13,35 @@ pub struct Flags {
 }
 
 // Bit 31 of the result.
+#[tactic(auto, unfolding(crate::specs::Flags::sign_flag))]
 pub fn sign_flag(res: u32) -> u64
     ensures { result ≡ sign_flag res }
 {
-    (res / 0x8000_0000) as u64
+    u64::from(res / 0x8000_0000)
 }
 
+#[tactic(auto, unfolding(crate::specs::Flags::zero_flag))]
 pub fn zero_flag(res: u32) -> u64
     ensures { result ≡ zero_flag res }
 {
-    if res == 0 { 1 } else { 0 }
+    u64::from(res == 0)
 }
 
 // C after an operation: c is the C before it.
+#[tactic(auto, unfolding(crate::specs::Flags::carry_after))]
 fn carry_after(operation: u64, a: u32, b: u32, res: u32, c: u64) -> u64
     ensures { result ≡ carry_after operation a b res c }
 {
     match operation {
         2 => super::sums::carry_of_add(a, b),
         3 => super::sums::carry_of_sub(a, b),
-        10 => (res % 2) as u64,
+        10 => u64::from(res % 2),
         _ => c,
     }
 }
 
 // V after an operation: v is the V before it.
+#[tactic(auto, unfolding(crate::specs::Flags::overflow_after))]
 fn overflow_after(operation: u64, a: u32, b: u32, v: u64) -> u64
     ensures { result ≡ overflow_after operation a b v }
 {
@@ -49,17 +53,14 @@ fn overflow_after(operation: u64, a: u32, b: u32, v: u64) -> u64
 }
 
 // All four flags after an operation that gave this result; c and v are those before it.
+#[tactic(auto, unfolding(crate::specs::Flags::flags_after))]
 pub fn flags_after(operation: u64, a: u32, b: u32, res: u32, c: u64, v: u64) -> Flags
     ensures { result ≡ flags_after operation a b res c v }
 {
-    let n = sign_flag(res);
-    let z = zero_flag(res);
-    let carry = carry_after(operation, a, b, res, c);
-    let overflow = overflow_after(operation, a, b, v);
     Flags {
-        n: n,
-        z: z,
-        c: carry,
-        v: overflow,
+        n: sign_flag(res),
+        z: zero_flag(res),
+        c: carry_after(operation, a, b, res, c),
+        v: overflow_after(operation, a, b, v),
     }
 }

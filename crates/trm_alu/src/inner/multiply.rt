@@ -8,7 +8,7 @@ ghost use Rattle.trm_alu.specs.Multiply.{mul_after, mul_step, upper_half};
 fn upper_half(b: u32) -> u64
     ensures { result ≡ upper_half b }
 {
-    std::num::wrapping_sub_u64(super::sums::biased(b) * 0x8000_0000, 0x4000_0000_0000_0000)
+    (super::sums::biased(b) * 0x8000_0000).wrapping_sub(0x4000_0000_0000_0000)
 }
 
 // The product of a bit and a word. The compiler turns this `if` into a select without a branch, and a multiplication into a branch (D-60).
@@ -16,23 +16,22 @@ fn bit_times(bit: u64, x: u64) -> u64
     requires { bit < 2 }
     ensures { result ≡ bit * x }
 {
-    if bit == 1 {
-        return x;
-    }
-    0
+    if bit == 1 { x } else { 0 }
 }
 
 // One step: the register shifts right by one, arithmetically; if the bit shifted out is set,
 // B is added to the upper half, and in the last step subtracted.
+#[tactic(auto, unfolding(crate::specs::Multiply::mul_step, crate::specs::Multiply::shifted_right))]
 pub fn step(acc: u64, b: u32, last: bool) -> u64
     ensures { result ≡ mul_step acc b last }
 {
     let half = acc / 2 + acc / 0x8000_0000_0000_0000 * 0x8000_0000_0000_0000;
     let addend = bit_times(acc % 2, upper_half(b));
     if last {
-        return std::num::wrapping_sub_u64(half, addend);
+        half.wrapping_sub(addend)
+    } else {
+        half.wrapping_add(addend)
     }
-    std::num::wrapping_add_u64(half, addend)
 }
 
 // For a number B with c = B + 2^31: B × t + y, plus 2^63.
@@ -48,17 +47,13 @@ pub fn after(a: u32, b: u32, k: u64) -> u64
     ensures { result ≡ mul_after a b k }
 {
     let c = super::sums::biased(b);
-    let w = a as u64;
-    if k < 32 {
-        let n = multiple(c, (w << (32 - k)) % 0x1_0000_0000, w >> k);
-        return std::num::wrapping_add_u64(n, 0x8000_0000_0000_0000);
-    }
-    let n = multiple(c, w % 0x8000_0000, 0);
-    if a < 0x8000_0000 {
-        return std::num::wrapping_add_u64(n, 0x8000_0000_0000_0000);
-    }
-    std::num::wrapping_add_u64(
-        n + 0x4000_0000_0000_0000 - c * 0x8000_0000,
-        0x8000_0000_0000_0000,
-    )
+    let w = u64::from(a);
+    let biased = if k < 32 {
+        multiple(c, (w << (32 - k)) % 0x1_0000_0000, w >> k)
+    } else if a < 0x8000_0000 {
+        multiple(c, w, 0)
+    } else {
+        multiple(c, w - 0x8000_0000, 0) + 0x4000_0000_0000_0000 - c * 0x8000_0000
+    };
+    biased.wrapping_add(0x8000_0000_0000_0000)
 }

@@ -5,22 +5,26 @@ ghost use Rattle.std.specs.Prelude.{◌≡◌};
 ghost use Rattle.trm_alu.specs.Pair.{pair_divisor, pair_step};
 
 // A at the remainder's place; for A at or below 0 the pair is 0, and this is a number above it, so that nothing is subtracted.
+#[tactic(auto, unfolding(crate::specs::Pair::pair_divisor))]
 pub fn divisor(a: u32) -> u64
     ensures { result ≡ pair_divisor a }
 {
-    if !super::divide::above0(a) {
-        return 0x8000_0000_0000_0000;
+    if super::divide::above0(a) {
+        u64::from(a) * 0x1_0000_0000
+    } else {
+        0x8000_0000_0000_0000
     }
-    a as u64 * 0x1_0000_0000
 }
 
 // One step of the pair.
+#[tactic(auto, unfolding(crate::specs::Pair::pair_step))]
 pub fn step(pair: u64, divisor: u64) -> u64
     ensures { result ≡ pair_step pair divisor }
 {
     let moved = pair % 0x8000_0000_0000_0000 * 2;
     if moved < divisor {
-        return moved;
+        moved
+    } else {
+        moved - divisor + 1
     }
-    moved - divisor + 1
 }

@@ -11,7 +11,7 @@ ghost use Rattle.trm_alu.specs.Word.{biased};
 pub fn biased(x: u32) -> u64
     ensures { result ≡ biased x }
 {
-    (x as u64 + 0x8000_0000) % 0x1_0000_0000
+    (u64::from(x) + 0x8000_0000) % 0x1_0000_0000
 }
 
 // B + A, exact, plus 2^32.
@@ -29,29 +29,32 @@ fn biased_difference(a: u32, b: u32) -> u64
 }
 
 // The 32-bit result of ADD.
+#[tactic(auto, using(crate::proofs::Laws::Sums::sum_is))]
 pub fn add(a: u32, b: u32) -> u32
     ensures { result ≡ sum a b }
 {
-    std::num::wrapping_add_u32(b, a)
+    b.wrapping_add(a)
 }
 
 // The 32-bit result of SUB, B - A.
 pub fn subtract(a: u32, b: u32) -> u32
     ensures { result ≡ difference a b }
 {
-    std::num::wrapping_sub_u32(b, a)
+    b.wrapping_sub(a)
 }
 
+#[tactic(auto, unfolding(crate::specs::Flags::carry_of_add))]
 pub fn carry_of_add(a: u32, b: u32) -> u64
     ensures { result ≡ carry_of_add a b }
 {
-    (b as u64 + a as u64) / 0x1_0000_0000
+    (u64::from(b) + u64::from(a)) / 0x1_0000_0000
 }
 
+#[tactic(auto, unfolding(crate::specs::Flags::carry_of_sub))]
 pub fn carry_of_sub(a: u32, b: u32) -> u64
     ensures { result ≡ carry_of_sub a b }
 {
-    if b >= a { 1 } else { 0 }
+    u64::from(b >= a)
 }
 
 pub fn overflow_of_add(a: u32, b: u32) -> u64

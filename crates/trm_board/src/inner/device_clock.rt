@@ -12,51 +12,52 @@ use trm_serial::inner::{receiver, transmitter};
 use trm_serial::record::Serial;
 
 // The serial part after the core's access: 17 reads device 4, 18 writes it.
+#[tactic(auto, unfolding(crate::specs::Board::access_of))]
 fn serial_access(s: Serial, byte: u8, word: u32) -> Serial
     ensures { result ≡ accessed paper_timing (access_of byte word) s }
 {
-    if byte == 17 {
-        return transmitter::read_clock(s);
+    match byte {
+        17 => transmitter::read_clock(s),
+        18 => transmitter::write_clock(s, word),
+        _ => transmitter::other_clock(s),
     }
-    if byte == 18 {
-        return transmitter::write_clock(s, word);
-    }
-    transmitter::other_clock(s)
 }
 
 // The tick after a clock that brought the count to this: 26 writes device 6.
+#[tactic(auto, unfolding(crate::specs::Board::tick_after))]
 fn tick_after(count: u64, byte: u8, tick: u64) -> u64
     ensures { result ≡ tick_after paper_timing count byte tick }
 {
     if count % 116600 == 0 {
-        return 1;
+        1
+    } else if byte == 26 {
+        0
+    } else {
+        tick
     }
-    if byte == 26 {
-        return 0;
-    }
-    tick
 }
 
 // The lamps after a clock: 30 writes device 7.
+#[tactic(auto, unfolding(crate::specs::Board::lamps_after))]
 fn lamps_after(byte: u8, word: u32, lamps: u64) -> u64
     ensures { result ≡ lamps_after byte word lamps }
 {
     if byte == 30 {
-        return (word % 1024) as u64;
+        u64::from(word % 1024)
+    } else {
+        lamps
     }
-    lamps
 }
 
 // All of them; the line is at this level, and the clock brought the count to this.
+#[tactic(auto, unfolding(trm_serial::specs::Serial::serial_clock))]
 pub fn device_clock(d: Devices, line: u64, count: u64, byte: u8, word: u32) -> Devices
     requires { InRange d × (line ≤ 1) }
     ensures { result ≡ devices_clock paper_timing line count byte word d }
 {
-    let serial = d.serial;
-    let accessed = serial_access(serial, byte, word);
-    let heard = receiver::listen(accessed, line);
+    let accessed = serial_access(d.serial, byte, word);
     Devices {
-        serial: heard,
+        serial: receiver::listen(accessed, line),
         tick: tick_after(count, byte, d.tick),
         lamps: lamps_after(byte, word, d.lamps),
     }

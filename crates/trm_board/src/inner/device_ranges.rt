@@ -9,37 +9,22 @@ use crate::record::Devices;
 use trm_serial::record::Serial;
 
 // The serial part.
+#[tactic(auto, unfolding(trm_serial::specs::Rule::serial_ok, trm_serial::specs::Timing::frame, trm_serial::specs::Timing::stop_sample))]
 fn serial_fits(s: Serial) -> bool
     ensures { result ≡ serial_ok paper_timing s }
 {
-    if s.left > 10120 {
-        return false;
-    }
-    if s.sent > 255 {
-        return false;
-    }
-    if s.passed >= 9614 {
-        return false;
-    }
-    if s.bits > 255 {
-        return false;
-    }
-    if s.byte > 255 {
-        return false;
-    }
-    s.ready <= 1
+    s.left <= 10120
+        && s.sent <= 255
+        && s.passed < 9614
+        && s.bits <= 255
+        && s.byte <= 255
+        && s.ready <= 1
 }
 
 // All of them.
+#[tactic(auto, unfolding(crate::specs::Rule::devices_ok))]
 pub fn devices_fit(d: Devices) -> bool
     ensures { result ≡ devices_ok paper_timing d }
 {
-    let s = d.serial;
-    if !serial_fits(s) {
-        return false;
-    }
-    if d.tick > 1 {
-        return false;
-    }
-    d.lamps <= 1023
+    serial_fits(d.serial) && d.tick <= 1 && d.lamps <= 1023
 }

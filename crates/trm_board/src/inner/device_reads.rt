@@ -9,34 +9,27 @@ ghost use Rattle.trm_board.specs.Board.{status, reply};
 use trm_serial::record::Serial;
 
 // Device 5.
+#[tactic(auto, unfolding(crate::specs::Board::status, trm_serial::specs::Serial::busy))]
 fn status_of(s: Serial) -> u64
     requires { Narrow s }
     ensures { (result ≡ status s) × (result ≤ 3) }
 {
-    if s.left == 0 {
-        return s.ready + 2;
-    }
-    s.ready
+    s.ready + 2 * u64::from(s.left == 0)
 }
 
 // What a read of the device gives; `count` is the clock count when the clock began; 64: no device is read.
+#[tactic(auto, unfolding(crate::specs::Board::reply))]
 pub fn reply_of(s: Serial, count: u64, switches: u8, device: u64) -> u32
     requires { Narrow s × (count < 4294967296) }
     ensures { result ≡ reply paper_timing s count switches device }
 {
-    if device == 4 {
-        return s.byte as u32;
+    match device {
+        4 => s.byte as u32,
+        5 => status_of(s) as u32,
+        6 => (count / 116600) as u32,
+        7 => u32::from(switches),
+        _ => 0,
     }
-    if device == 5 {
-        return status_of(s) as u32;
-    }
-    if device == 6 {
-        return (count / 116600) as u32;
-    }
-    if device == 7 {
-        return switches as u32;
-    }
-    0
 }
 
 // The core's line byte: the tick is interrupt 0; `given` has interrupt 1 in bit 1 and stall in bit 2.

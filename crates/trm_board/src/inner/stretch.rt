@@ -3,21 +3,11 @@
 // tick in bit 0, so a stretch ends with the clock in which the tick can rise.
 ghost use Rattle.std.specs.Prelude.{◌+◌, ◌%◌, ◌≤◌};
 
-// The smaller of two numbers.
-fn least(a: usize, b: usize) -> usize
-    ensures { (result ≤ a) × (result ≤ b) }
-{
-    if a < b {
-        return a;
-    }
-    b
-}
-
 // How many of the clocks from `at` to `n` to do in one go: at most 64, and none after the next rise of the tick.
 pub fn stretch(at: usize, n: usize, count: u64) -> usize
     requires { at ≤ n }
     ensures { (result ≤ 64) × (at + result ≤ n) × (count % 116600 + result ≤ 116600) }
 {
     let to_tick = (116600 - count % 116600) as usize;
-    least(least(n - at, 64), to_tick)
+    (n - at).min(64).min(to_tick)
 }

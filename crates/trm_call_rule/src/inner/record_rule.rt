@@ -91,7 +91,7 @@ impl Situation<'_> {
         }
         let a = operands::operand_a(self.c, self.regs, self.w);
         let b = operands::operand_b(self.c, self.regs, self.w);
-        divide::after(a, b, k)
+        Divider::after(a, b, k)
     }
 
     // "a multiplier or divider register other than stated"; in phase 1 the count is at most 32 by the clause checked before.

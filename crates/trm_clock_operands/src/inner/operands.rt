@@ -14,16 +14,19 @@ use trm_core::record::Scalars;
 use trm_word::inner::address::Place;
 
 // The word at PC; beyond the program's end, a branch that is never taken.
+#[tactic(auto, unfolding(trm_reference::specs::Visible::word_at))]
 pub fn word_at(program: &[u32], pc: u64) -> u32
     ensures { result ≡ word_at program.now pc }
 {
     if pc < program.len() as u64 {
-        return program[pc as usize];
+        program[pc as usize]
+    } else {
+        0x3BC00
     }
-    0x3BC00
 }
 
 // The index of R.r in the two banks.
+#[tactic(auto, unfolding(trm_reference::specs::Visible::register_index))]
 pub fn register_index(status: u64, r: u32) -> usize
     requires { r < 8 }
     ensures { (result ≡ register_index status r) × (result < 16) }
@@ -32,12 +35,12 @@ pub fn register_index(status: u64, r: u32) -> usize
 }
 
 // R.r of the bank in use.
+#[tactic(auto, unfolding(trm_reference::specs::Visible::register))]
 pub fn register_at(c: Scalars, regs: &[u32; 16], r: u32) -> u32
     requires { r < 8 }
     ensures { result ≡ register (gathered c regs.now) r }
 {
-    let i = register_index(c.status, r);
-    regs[i]
+    regs[register_index(c.status, r)]
 }
 
 // MOV takes H if bits 10 and 3 are both set; the caller has tested bit 10.
@@ -45,26 +48,25 @@ fn moves_high(w: u32) -> bool
     requires { bit 10 w ≡ 1 }
     ensures { result ≡ moves_high w }
 {
-    if w / 0x4000 % 16 != 0 {
-        return false;
-    }
-    w / 8 % 2 == 1
+    w / 0x4000 % 16 == 0 && w / 8 % 2 == 1
 }
 
 // Operand A: R.s, the literal, or H.
+#[tactic(auto, unfolding(trm_reference::specs::Execute::operand_a))]
 pub fn operand_a(c: Scalars, regs: &[u32; 16], w: u32) -> u32
     ensures { result ≡ operand_a w (gathered c regs.now) }
 {
     if w / 1024 % 2 != 1 {
-        return w % 1024;
+        w % 1024
+    } else if moves_high(w) {
+        c.h
+    } else {
+        register_at(c, regs, w % 8)
     }
-    if moves_high(w) {
-        return c.h;
-    }
-    register_at(c, regs, w % 8)
 }
 
 // Operand B: R.d.
+#[tactic(auto, unfolding(trm_reference::specs::Execute::operand_b))]
 pub fn operand_b(c: Scalars, regs: &[u32; 16], w: u32) -> u32
     ensures { result ≡ operand_b w (gathered c regs.now) }
 {
@@ -72,6 +74,7 @@ pub fn operand_b(c: Scalars, regs: &[u32; 16], w: u32) -> u32
 }
 
 // The word that ST stores: R.d.
+#[tactic(auto, unfolding(trm_reference::specs::Access::stored))]
 pub fn stored_word(c: Scalars, regs: &[u32; 16], w: u32) -> u32
     ensures { result ≡ stored w (gathered c regs.now) }
 {
@@ -79,6 +82,7 @@ pub fn stored_word(c: Scalars, regs: &[u32; 16], w: u32) -> u32
 }
 
 // The address of LD and ST.
+#[tactic(auto, unfolding(trm_reference::specs::Access::address_of))]
 fn address_of(c: Scalars, regs: &[u32; 16], w: u32) -> u64
     ensures { result ≡ address_of w (gathered c regs.now) }
 {
@@ -88,6 +92,7 @@ fn address_of(c: Scalars, regs: &[u32; 16], w: u32) -> u64
 }
 
 // The device, or the index in the store, that LD and ST access.
+#[tactic(auto, unfolding(trm_reference::specs::Access::place_of_word))]
 pub fn place_of_word(c: Scalars, regs: &[u32; 16], w: u32, n: u64) -> Place
     requires { store_length_ok n ≡ true }
     ensures { result ≡ place_of_word w (gathered c regs.now) n }
@@ -96,6 +101,7 @@ pub fn place_of_word(c: Scalars, regs: &[u32; 16], w: u32, n: u64) -> Place
 }
 
 // 12 LD.
+#[tactic(auto, unfolding(trm_reference::specs::Access::is_load))]
 pub fn is_load(w: u32) -> bool
     ensures { result ≡ is_load w }
 {
@@ -103,6 +109,7 @@ pub fn is_load(w: u32) -> bool
 }
 
 // 13 ST.
+#[tactic(auto, unfolding(trm_reference::specs::Access::is_store))]
 pub fn is_store(w: u32) -> bool
     ensures { result ≡ is_store w }
 {
@@ -110,28 +117,27 @@ pub fn is_store(w: u32) -> bool
 }
 
 // 12 and 13.
+#[tactic(auto, unfolding(trm_reference::specs::Access::is_access))]
 pub fn is_access(w: u32) -> bool
     ensures { result ≡ is_access w }
 {
-    if is_load(w) {
-        return true;
-    }
-    is_store(w)
+    is_load(w) || is_store(w)
 }
 
 // The index in the store that LD and ST access; 0 for a device.
+#[tactic(auto, unfolding(trm_reference::specs::Access::target, trm_reference::specs::Access::memory_index))]
 pub fn target_of(c: Scalars, regs: &[u32; 16], w: u32, n: u64) -> u64
     requires { store_length_ok n ≡ true }
     ensures { result ≡ target w (gathered c regs.now) n }
 {
-    let place = place_of_word(c, regs, w, n);
-    match place {
+    match place_of_word(c, regs, w, n) {
         Place::Device(_) => 0,
         Place::Memory(a) => a,
     }
 }
 
 // Status bit 3: the cache is on.
+#[tactic(auto, unfolding(trm_reference::specs::Visible::cache_on))]
 pub fn cache_on(c: Scalars, regs: &[u32; 16]) -> bool
     ensures { result ≡ cache_on (gathered c regs.now) }
 {
@@ -139,24 +145,17 @@ pub fn cache_on(c: Scalars, regs: &[u32; 16]) -> bool
 }
 
 // Whether the condition of the branch, operation 14, holds.
+#[tactic(auto, unfolding(trm_reference::specs::Execute::branch_taken))]
 pub fn branch_taken(c: Scalars, regs: &[u32; 16], w: u32) -> bool
     ensures { result ≡ branch_taken w (gathered c regs.now) }
 {
-    trm_word::inner::condition::condition_holds((w / 1024 % 16) as u64, c.n, c.z, c.c, c.v)
+    trm_word::inner::condition::condition_holds(u64::from(w / 1024 % 16), c.n, c.z, c.c, c.v)
 }
 
 // Operation 11 with bit 10 clear that clears status bit 3 while it is set.
+#[tactic(auto, unfolding(trm_reference::specs::Charge::turns_cache_off))]
 pub fn turns_cache_off(c: Scalars, regs: &[u32; 16], w: u32) -> bool
     ensures { result ≡ turns_cache_off w (gathered c regs.now) }
 {
-    if w / 0x4000 % 16 != 11 {
-        return false;
-    }
-    if w / 1024 % 2 == 1 {
-        return false;
-    }
-    if !cache_on(c, regs) {
-        return false;
-    }
-    w / 8 % 2 != 1
+    w / 0x4000 % 16 == 11 && w / 1024 % 2 != 1 && cache_on(c, regs) && w / 8 % 2 != 1
 }

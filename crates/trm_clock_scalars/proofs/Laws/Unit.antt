@@ -1,9 +1,8 @@
--- The multiplier's or divider's registers packed into one number: packing, unpacking, and one step.
+-- The multiplier's or divider's registers packed into one number: they fit, and one step.
 -- Idea: by cases of the unit; the number is the product, or trm_alu's pair, whose step is a step of both divider registers.
---   packs                           in phase 1 the registers in flight fit one number
---   product-packed, pair-packed     unpacking undoes packing        product-stepped, pair-stepped   one step
+--   packs   in phase 1 the registers in flight fit one number        product-stepped, pair-stepped   one step
 use Prim.Native.Nat.{ℕ, ◌+◌, ◌*◌, ◌/◌, ◌%◌, ◌^◌, ◌≤◌, ◌<◌}
-use mathlib.Core.Path.{◌≡◌, sym, ap, ◌∙◌}
+use mathlib.Core.Path.{◌≡◌, ap, ◌∙◌}
 use mathlib.Core.Logic.{◌≢◌}
 use mathlib.Core.Bool.{true, cond}
 use lib.Dec.{eqb}
@@ -27,24 +26,7 @@ use Rattle.trm_clock_scalars.specs.Steps.{Serves}
 use Rattle.trm_clock_scalars.specs.Unit.{Packs, in_flight}
 use Rattle.trm_clock_scalars.proofs.Laws.Steps.{mul_next, divides_if, multiplies, divides, multiplied-is, divided-is}
 
--- ---- packing and unpacking
-
--- equality of two `Running` in phase 1, field by field
-running-same : {r : Running} {p m q : ℕ} → 1 ≡ r.phase → p ≡ r.product → m ≡ r.remainder → q ≡ r.quotient
-    → ◌≡◌ {A = Running} (record { phase = 1; count = r.count; product = p; remainder = m; quotient = q }) r
-running-same {r} e f g h = λ i. record { phase = e i; count = r.count; product = f i; remainder = g i; quotient = h i }
-
-module _ (w : ℕ) (r : Running) (h : Packs w r) where
-  pub product-packed : operation w ≡ 8 → in_flight w (record { value = r.product; count = r.count }) ≡ r
-  product-packed e =
-      let z = h.multiplies e in
-      running-same (sym h.phase) (rw (test_at e 8)) (rw (test_at e 8) (sym z.0)) (rw (test_at e 8) (sym z.1))
-
-  pub pair-packed : operation w ≢ 8 → in_flight w (record { value = r.remainder * 2 ^ 32 + r.quotient; count = r.count }) ≡ r
-  pair-packed n =
-      let z = h.divides n in
-      let no = ne_eqb (operation w) 8 n in
-      running-same (sym h.phase) (rw no (sym z.0)) (rw no (omega (arith, z.2))) (rw no (omega (arith, z.2)))
+-- ---- packing
 
 -- in phase 1 the other unit's registers are zero, and those of the divider have 32 bits
 pub packs : (w : ℕ) (r : Running) (v : Visible) → is_stepped w ≡ true → r.phase ≡ 1 → r.count ≤ 32 → operand_b w v < 2 ^ 32

@@ -7,52 +7,46 @@ ghost use Rattle.trm_reference.specs.Interrupt.{stalled, interrupt_raised, inter
 ghost use Rattle.trm_core.specs.Record.{gathered, ended};
 ghost use Rattle.trm_core.specs.Rule.{widths_ok, counts_ok};
 
+use crate::inner::scalars;
 use trm_core::record::Scalars;
 
 // Stall, bit 2 of the line byte.
+#[tactic(auto, unfolding(trm_reference::specs::Interrupt::stalled))]
 pub fn is_stalled(pins: u8) -> bool
     ensures { result ≡ stalled pins }
 {
     pins / 4 % 2 == 1
 }
 
-// Interrupt line 0 is enabled and high.
-fn raised_first(status: u64, pins: u8) -> bool
-    ensures { result ≡ interrupt_raised 0 status pins }
+// An interrupt line is enabled and high.
+#[tactic(auto, unfolding(trm_reference::specs::Interrupt::interrupt_raised))]
+fn is_raised(line: u32, status: u64, pins: u8) -> bool
+    requires { line ≤ 1 }
+    ensures { result ≡ interrupt_raised line status pins }
 {
-    if status % 2 != 1 {
-        return false;
-    }
-    pins % 2 == 1
-}
-
-// Interrupt line 1 is enabled and high.
-fn raised_second(status: u64, pins: u8) -> bool
-    ensures { result ≡ interrupt_raised 1 status pins }
-{
-    if status / 2 % 2 != 1 {
-        return false;
-    }
-    pins / 2 % 2 == 1
+    (status >> line) % 2 == 1 && (pins >> line) % 2 == 1
 }
 
 // The PC of the interrupt taken, 2 or 3; 0 if none is taken.
+// A number and no Option, as in the definition that both machines cite; a loop over clocks then tests one register.
+#[tactic(auto, unfolding(trm_reference::specs::Interrupt::interrupt_chosen))]
 pub fn interrupt_chosen(status: u64, pins: u8) -> u64
     ensures { (result ≡ interrupt_chosen status pins) × (result < 4) }
 {
     if status / 4 % 2 == 1 {
         return 0;
     }
-    if raised_first(status, pins) {
-        return 2;
+    if is_raised(0, status, pins) {
+        2
+    } else if is_raised(1, status, pins) {
+        3
+    } else {
+        0
     }
-    if raised_second(status, pins) {
-        return 3;
-    }
-    0
 }
 
 // The status with its mode bit replaced.
+#[tactic(auto, unfolding(trm_reference::specs::Visible::with_mode))]
 pub fn with_mode(mode: u64, status: u64) -> u64
     requires { mode ≤ 1 }
     ensures { result ≡ with_mode mode status }
@@ -61,6 +55,7 @@ pub fn with_mode(mode: u64, status: u64) -> u64
 }
 
 // The word saved in bank 1's R7: flags and PC.
+#[tactic(auto, unfolding(trm_reference::specs::Interrupt::saved_word, trm_core::specs::Rule::widths_ok))]
 fn saved_word(c: Scalars) -> u32
     requires { widths_ok (gathered c []) ≡ true }
     ensures { result ≡ saved_word (gathered c []) }
@@ -69,16 +64,16 @@ fn saved_word(c: Scalars) -> u32
 }
 
 // The clock that takes the interrupt.
+#[tactic(auto, unfolding(trm_reference::specs::Interrupt::interrupted, trm_reference::specs::Interrupt::saved_word))]
 pub fn take_interrupt(c: Scalars, regs: &mut [u32; 16], to: u64) -> Scalars
     requires { (widths_ok (gathered c regs.old) ≡ true) × (counts_ok c.counts ≡ true) }
     ensures { (result ≡ ended c (interrupted (gathered c regs.old) to))
         × (regs.new ≡ (interrupted (gathered c regs.old) to).regs) }
 {
-    let saved = saved_word(c);
-    regs[15] = saved;
-    let mut next = crate::inner::scalars::settle(c);
-    next.pc = to;
-    let status = with_mode(1, c.status);
-    next.status = status;
-    next
+    regs[15] = saved_word(c);
+    Scalars {
+        pc: to,
+        status: with_mode(1, c.status),
+        ..scalars::settle(c)
+    }
 }

@@ -9,6 +9,8 @@ ghost use Rattle.trm_core.specs.Record.{stepping};
 ghost use Rattle.trm_clock_scalars.specs.Steps.{Serves};
 ghost use Rattle.trm_clock_scalars.specs.Unit.{Packs, in_flight};
 
+use crate::inner::scalars;
+use trm_alu::inner::{multiply, pair};
 use trm_core::record::Running;
 
 // The packed registers and the number of steps taken.
@@ -18,60 +20,59 @@ pub struct Unit {
     pub count: u64,
 }
 
-// Packs the registers of the word's unit.
-pub fn pack(r: Running, w: u32) -> Unit
-    requires { Packs w r }
-    ensures { in_flight w result ≡ r }
-{
-    if w / 0x4000 % 16 == 8 {
-        return Unit {
-            value: r.product,
-            count: r.count,
-        };
+impl Unit {
+    // Packs the registers of the word's unit.
+    pub fn pack(r: Running, w: u32) -> Unit
+        requires { Packs w r }
+        ensures { in_flight w result ≡ r }
+    {
+        if w / 0x4000 % 16 == 8 {
+            Unit {
+                value: r.product,
+                count: r.count,
+            }
+        } else {
+            Unit {
+                value: r.remainder * 0x1_0000_0000 + r.quotient,
+                count: r.count,
+            }
+        }
     }
-    Unit {
-        value: r.remainder * 0x1_0000_0000 + r.quotient,
-        count: r.count,
-    }
-}
 
-// Unpacks them.
-pub fn unpack(u: Unit, w: u32) -> Running
-    ensures { result ≡ in_flight w u }
-{
-    if w / 0x4000 % 16 == 8 {
-        return Running {
-            phase: 1,
-            count: u.count,
-            product: u.value,
-            remainder: 0,
-            quotient: 0,
-        };
+    // Unpacks them.
+    pub fn unpack(self, w: u32) -> Running
+        ensures { result ≡ in_flight w self }
+    {
+        let running = scalars::in_phase(1, self.count);
+        if w / 0x4000 % 16 == 8 {
+            Running {
+                product: self.value,
+                ..running
+            }
+        } else {
+            Running {
+                remainder: self.value / 0x1_0000_0000,
+                quotient: self.value % 0x1_0000_0000,
+                ..running
+            }
+        }
     }
-    Running {
-        phase: 1,
-        count: u.count,
-        product: 0,
-        remainder: u.value / 0x1_0000_0000,
-        quotient: u.value % 0x1_0000_0000,
-    }
-}
 
-// One step of the word's unit. `a` is there for the contract: the multiplier does not read it, the divider reads `divisor` instead.
-pub fn step(u: Unit, w: u32, a: u32, b: u32, divisor: u64) -> Unit
-    requires { Serves w (in_flight w u) a b × (divisor ≡ pair_divisor a) }
-    ensures { (v : Visible) → a ≡ operand_a w v → b ≡ operand_b w v → in_flight w result ≡ stepping w v (u.count + 1) }
-{
-    if w / 0x4000 % 16 == 8 {
-        let product = trm_alu::inner::multiply::step(u.value, b, u.count == 31);
-        return Unit {
-            value: product,
-            count: u.count + 1,
-        };
-    }
-    let pair = trm_alu::inner::pair::step(u.value, divisor);
-    Unit {
-        value: pair,
-        count: u.count + 1,
+    // One step of the word's unit. `a` is there for the contract: the multiplier does not read it, the divider reads `divisor` instead.
+    pub fn step(self, w: u32, a: u32, b: u32, divisor: u64) -> Unit
+        requires { Serves w (in_flight w self) a b × (divisor ≡ pair_divisor a) }
+        ensures { (v : Visible) → a ≡ operand_a w v → b ≡ operand_b w v → in_flight w result ≡ stepping w v (self.count + 1) }
+    {
+        if w / 0x4000 % 16 == 8 {
+            Unit {
+                value: multiply::step(self.value, b, self.count == 31),
+                count: self.count + 1,
+            }
+        } else {
+            Unit {
+                value: pair::step(self.value, divisor),
+                count: self.count + 1,
+            }
+        }
     }
 }

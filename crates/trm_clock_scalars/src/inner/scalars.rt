@@ -12,8 +12,8 @@ pub fn in_phase(phase: u64, count: u64) -> Running
     ensures { result ≡ in_phase phase count }
 {
     Running {
-        phase: phase,
-        count: count,
+        phase,
+        count,
         product: 0,
         remainder: 0,
         quotient: 0,
@@ -21,54 +21,46 @@ pub fn in_phase(phase: u64, count: u64) -> Running
 }
 
 // A clock that is not the instruction's last: the new `running`, and the refills and write-backs it finished.
-pub fn advance(c: Scalars, running: Running, refilled: u64, written: u64) -> Scalars
+#[tactic(auto, unfolding(trm_core::specs::Rule::counts_ok))]
+pub fn advance(mut c: Scalars, running: Running, refilled: u64, written: u64) -> Scalars
     requires { (counts_ok c.counts ≡ true) × (refilled ≤ 1) × (written ≤ 1) }
     ensures { result ≡ advanced c running refilled written }
 {
-    let mut next = c;
-    next.running = running;
-    let clocks = next.counts.clocks + 1; // a step, too, is a clock
-    next.counts.clocks = clocks;
-    let refills = next.counts.refills + refilled;
-    next.counts.refills = refills;
-    let writebacks = next.counts.writebacks + written;
-    next.counts.writebacks = writebacks;
-    next
+    c.running = running;
+    c.counts.clocks += 1; // a step, too, is a clock
+    c.counts.refills += refilled;
+    c.counts.writebacks += written;
+    c
 }
 
 // A held clock.
-pub fn hold(c: Scalars) -> Scalars
+#[tactic(auto, unfolding(trm_core::specs::Rule::counts_ok))]
+pub fn hold(mut c: Scalars) -> Scalars
     requires { counts_ok c.counts ≡ true }
     ensures { result ≡ waited c }
 {
-    let mut next = c;
-    let clocks = next.counts.clocks + 1;
-    next.counts.clocks = clocks;
-    let held = next.counts.held + 1;
-    next.counts.held = held;
-    next
+    c.counts.clocks += 1;
+    c.counts.held += 1;
+    c
 }
 
 // A clock after which nothing is in flight: the end of an instruction or an interrupt.
-pub fn settle(c: Scalars) -> Scalars
+#[tactic(auto, unfolding(trm_core::specs::Rule::counts_ok))]
+pub fn settle(mut c: Scalars) -> Scalars
     requires { counts_ok c.counts ≡ true }
     ensures { result ≡ ended c (gathered c []) }
 {
-    let mut next = c;
-    let running = in_phase(0, 0);
-    next.running = running;
-    let clocks = next.counts.clocks + 1; // an acknowledgement, too, is a clock
-    next.counts.clocks = clocks;
-    next
+    c.running = in_phase(0, 0);
+    c.counts.clocks += 1; // an acknowledgement, too, is a clock
+    c
 }
 
 // The same where nothing was in flight before.
-pub fn tick(c: Scalars) -> Scalars
+#[tactic(auto, unfolding(trm_core::specs::Rule::counts_ok))]
+pub fn tick(mut c: Scalars) -> Scalars
     requires { (counts_ok c.counts ≡ true) × (c.running ≡ in_phase 0 0) }
     ensures { result ≡ ended c (gathered c []) }
 {
-    let mut next = c;
-    let clocks = next.counts.clocks + 1;
-    next.counts.clocks = clocks;
-    next
+    c.counts.clocks += 1;
+    c
 }

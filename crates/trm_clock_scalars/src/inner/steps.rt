@@ -5,6 +5,9 @@ ghost use Rattle.std.specs.Prelude.{◌≡◌, ◌≢◌, ◌+◌};
 ghost use Rattle.trm_core.specs.Record.{gathered, stepping};
 ghost use Rattle.trm_clock_scalars.specs.Steps.{Steps, Multiplies, Divides, multiplied, divided_by};
 
+use crate::inner::scalars;
+use trm_alu::inner::divide::Divider;
+use trm_alu::inner::multiply;
 use trm_clock_operands::inner::operands;
 use trm_core::record::{Running, Scalars};
 
@@ -12,13 +15,9 @@ use trm_core::record::{Running, Scalars};
 fn multiplier_first(a: u32, b: u32) -> Running
     ensures { result ≡ multiplied a b 1 }
 {
-    let product = trm_alu::inner::multiply::step(a as u64, b, false);
     Running {
-        phase: 1,
-        count: 1,
-        product: product,
-        remainder: 0,
-        quotient: 0,
+        product: multiply::step(a as u64, b, false),
+        ..scalars::in_phase(1, 1)
     }
 }
 
@@ -27,13 +26,11 @@ fn multiplier_next(r: Running, a: u32, b: u32) -> Running
     requires { Multiplies r a b × (r.phase ≢ 0) }
     ensures { result ≡ multiplied a b (r.count + 1) }
 {
-    let product = trm_alu::inner::multiply::step(r.product, b, r.count == 31);
     Running {
         phase: 1,
         count: r.count + 1,
-        product: product,
-        remainder: r.remainder, // zero
-        quotient: r.quotient,
+        product: multiply::step(r.product, b, r.count == 31),
+        ..r
     }
 }
 
@@ -41,14 +38,11 @@ fn multiplier_next(r: Running, a: u32, b: u32) -> Running
 fn divider_first(a: u32, b: u32) -> Running
     ensures { result ≡ divided_by a b 1 }
 {
-    let before = trm_alu::inner::divide::start(a, b);
-    let after = trm_alu::inner::divide::step(before.rem, before.quot, a);
+    let after = Divider::start(a, b).step(a);
     Running {
-        phase: 1,
-        count: 1,
-        product: 0,
         remainder: after.rem,
         quotient: after.quot,
+        ..scalars::in_phase(1, 1)
     }
 }
 
@@ -57,13 +51,17 @@ fn divider_next(r: Running, a: u32, b: u32) -> Running
     requires { Divides r a b × (r.phase ≢ 0) }
     ensures { result ≡ divided_by a b (r.count + 1) }
 {
-    let after = trm_alu::inner::divide::step(r.remainder, r.quotient, a);
+    let before = Divider {
+        rem: r.remainder,
+        quot: r.quotient,
+    };
+    let after = before.step(a);
     Running {
         phase: 1,
         count: r.count + 1,
-        product: r.product, // zero
         remainder: after.rem,
         quotient: after.quot,
+        ..r
     }
 }
 
@@ -73,9 +71,10 @@ pub fn multiplier_step(r: Running, a: u32, b: u32) -> Running
     ensures { result ≡ multiplied a b (r.count + 1) }
 {
     if r.phase == 0 {
-        return multiplier_first(a, b);
+        multiplier_first(a, b)
+    } else {
+        multiplier_next(r, a, b)
     }
-    multiplier_next(r, a, b)
 }
 
 // A step of the divider, the first or a later one.
@@ -84,9 +83,10 @@ pub fn divider_step(r: Running, a: u32, b: u32) -> Running
     ensures { result ≡ divided_by a b (r.count + 1) }
 {
     if r.phase == 0 {
-        return divider_first(a, b);
+        divider_first(a, b)
+    } else {
+        divider_next(r, a, b)
     }
-    divider_next(r, a, b)
 }
 
 // The first step of the word's unit.
@@ -97,7 +97,8 @@ pub fn first_step(c: Scalars, regs: &[u32; 16], w: u32) -> Running
     let a = operands::operand_a(c, regs, w);
     let b = operands::operand_b(c, regs, w);
     if w / 0x4000 % 16 == 8 {
-        return multiplier_first(a, b);
+        multiplier_first(a, b)
+    } else {
+        divider_first(a, b)
     }
-    divider_first(a, b)
 }

@@ -19,12 +19,11 @@ fn no_counts() -> Counts
     }
 }
 
+#[tactic(auto, unfolding(trm_core::specs::Record::reset_of))]
 pub fn zero_scalars(store: &[u32]) -> Scalars
     requires { length store.now < 2 ^ 32 }
     ensures { result ≡ (reset_of paper_geometry store.now).scalars }
 {
-    let counts = no_counts();
-    let running = scalars::in_phase(0, 0);
     Scalars {
         status: 0,
         pc: 0,
@@ -32,9 +31,9 @@ pub fn zero_scalars(store: &[u32]) -> Scalars
         z: 0,
         c: 0,
         v: 0,
-        running: running,
+        running: scalars::in_phase(0, 0),
         h: 0,
         size: store.len() as u32,
-        counts: counts,
+        counts: no_counts(),
     }
 }

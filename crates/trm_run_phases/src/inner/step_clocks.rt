@@ -17,7 +17,7 @@ use crate::inner::going::Going;
 use trm_cache::record::Cache;
 use trm_clock_operands::inner::operands;
 use trm_clock_scalars::inner::packed_unit::Unit;
-use trm_clock_scalars::inner::{interrupt, packed_unit};
+use trm_clock_scalars::inner::interrupt;
 use trm_core::record::{Running, Scalars};
 
 // The registers in flight, and the clocks held meanwhile.
@@ -36,7 +36,7 @@ fn serial_clock(u: Unit, w: u32, a: u32, b: u32, divisor: u64, pins: u8) -> Unit
     if interrupt::is_stalled(pins) {
         return u;
     }
-    packed_unit::step(u, w, a, b, divisor)
+    u.step(w, a, b, divisor)
 }
 
 // After `clocks` clocks: those without a step were held. Counting them in the loop would take one more host register.
@@ -77,7 +77,7 @@ fn after_serial(g: Going, u: Unit, w: u32, k: usize) -> Going
       finished = g.finished;
     } }
 {
-    let after = packed_unit::unpack(u, w);
+    let after = u.unpack(w);
     let s = serial_after(g.scalars, after, k as u64);
     let c = with_serial(g.scalars, s, k as u64);
     Going {
@@ -107,7 +107,7 @@ pub fn steps_ahead(
     let b = operands::operand_b(g.scalars, regs, w);
     let divisor = trm_alu::inner::pair::divisor(a);
     let last = base[(w / 0x4000 % 16) as usize] - 1; // the number of steps
-    let mut u = packed_unit::pack(g.scalars.running, w);
+    let mut u = Unit::pack(g.scalars.running, w);
     let left = pins.len() - g.at;
     for k in 0..left {
         if u.count == last {

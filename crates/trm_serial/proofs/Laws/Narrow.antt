@@ -1,6 +1,6 @@
 -- The fields of the serial record stay in their ranges.
 -- Idea: each field by itself; the register is eight samples, whatever it was.
-use Prim.Native.Nat.{ℕ, zero, suc, ◌+◌, ◌≤◌}
+use Prim.Native.Nat.{ℕ, zero, suc, ◌+◌, ◌-◌, ◌/◌, ◌%◌, ◌^◌, ◌≤◌}
 use mathlib.Core.Path.{◌≡◌, refl}
 use mathlib.Core.Bool.{true}
 use lib.ListN.{get_or}
@@ -14,6 +14,19 @@ use Rattle.trm_serial.specs.Serial.{Access, reads, writes, others, levels, left_
 use Rattle.trm_serial.specs.Serial.{samples}
 use Rattle.trm_serial.specs.Serial.{gathered, listened, serial_clock}
 use Rattle.trm_serial.specs.Rule.{serial_ok, Narrow}
+
+-- a data bit is the byte shifted right
+pub data_bit : (b i : ℕ) → 1 ≤ i → i ≤ 8 → b / 2 ^ (i - 1) % 2 ≡ get_or (levels b) i 1
+data_bit b zero h l = absurd (omega arith)
+data_bit b (suc zero) h l = omega arith
+data_bit b (suc (suc zero)) h l = refl
+data_bit b (suc (suc (suc zero))) h l = refl
+data_bit b (suc (suc (suc (suc zero)))) h l = refl
+data_bit b (suc (suc (suc (suc (suc zero))))) h l = refl
+data_bit b (suc (suc (suc (suc (suc (suc zero)))))) h l = refl
+data_bit b (suc (suc (suc (suc (suc (suc (suc zero))))))) h l = refl
+data_bit b (suc (suc (suc (suc (suc (suc (suc (suc zero)))))))) h l = refl
+data_bit b (suc (suc (suc (suc (suc (suc (suc (suc (suc i))))))))) h l = absurd (omega arith)
 
 -- from the stop bit on a level is high
 pub stop-bit : (b i : ℕ) → 9 ≤ i → ◌≡◌ {A = ℕ} 1 (get_or (levels b) i 1)

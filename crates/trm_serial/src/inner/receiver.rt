@@ -9,42 +9,38 @@ ghost use Rattle.trm_serial.specs.Rule.{Narrow};
 use crate::record::Serial;
 
 // Whether the clock after so many of a frame samples a data bit.
+#[tactic(auto, unfolding(crate::specs::Serial::samples))]
 fn samples_data(passed: u64) -> bool
     requires { passed < 9614 }
     ensures { result ≡ samples paper_timing passed }
 {
-    if passed % 1012 + 1 != 506 {
-        return false;
-    }
     let place = passed / 1012;
-    if place == 0 {
-        return false;
-    }
-    place < 9
+    passed % 1012 + 1 == 506 && 0 < place && place < 9
 }
 
 // The shift register after a clock.
+#[tactic(auto, unfolding(crate::specs::Serial::gathered))]
 fn gather(line: u64, passed: u64, bits: u64) -> u64
     requires { (passed < 9614) × (line ≤ 1) × (bits ≤ 255) }
     ensures { result ≡ gathered paper_timing line passed bits }
 {
     if samples_data(passed) {
-        return bits / 2 + 128 * line;
+        bits / 2 + 128 * line
+    } else {
+        bits
     }
-    bits
 }
 
 // Whether no frame has begun and the line is high.
+#[tactic(auto, unfolding(crate::specs::Serial::waits))]
 fn waits_high(line: u64, passed: u64) -> bool
     ensures { result ≡ waits paper_timing line passed }
 {
-    if passed != 0 {
-        return false;
-    }
-    line != 0
+    passed == 0 && line != 0
 }
 
 // One clock with the line at this level.
+#[tactic(auto, unfolding(crate::specs::Serial::listened, crate::specs::Serial::stops, crate::specs::Timing::stop_sample))]
 pub fn listen(mut s: Serial, line: u64) -> Serial
     requires { Narrow s × (line ≤ 1) }
     ensures { result ≡ listened paper_timing line s }
@@ -59,6 +55,6 @@ pub fn listen(mut s: Serial, line: u64) -> Serial
         return s;
     }
     s.bits = gather(line, s.passed, s.bits);
-    s.passed = s.passed + 1;
+    s.passed += 1;
     s
 }

@@ -22,26 +22,14 @@ pub fn base_of(s: u32, register: u32) -> u32
 pub fn effective_address(base: u32, offset: u32) -> u64
     ensures { result ≡ effective_address base offset }
 {
-    (std::num::wrapping_add_u32(base, offset) % 0x1_0000) as u64
+    u64::from(base.wrapping_add(offset) % 0x1_0000)
 }
 
 // Whether a store may have this many words.
 pub fn store_length_ok(length: u64) -> bool
     ensures { result ≡ store_length_ok length }
 {
-    match length {
-        64 => true,
-        128 => true,
-        256 => true,
-        512 => true,
-        1024 => true,
-        2048 => true,
-        4096 => true,
-        8192 => true,
-        16384 => true,
-        32768 => true,
-        _ => false,
-    }
+    64 <= length && length <= 32768 && length.is_power_of_two()
 }
 
 // The device, or the word of a store of this length.
@@ -50,7 +38,8 @@ pub fn place_of(address: u64, length: u64) -> Place
     ensures { result ≡ place_of address length }
 {
     if address < 0xFFC0 {
-        return Place::Memory(address & (length - 1));
+        Place::Memory(address & (length - 1))
+    } else {
+        Place::Device(address - 0xFFC0)
     }
-    Place::Device(address - 0xFFC0)
 }

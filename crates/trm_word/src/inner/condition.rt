@@ -1,15 +1,8 @@
 // The sixteen conditions of operation 14, by number.
 // Paper: "Conditions 0-15: Z; not Z; C; not C; N; not N; V; not V; C and not Z; its opposite; .."
 // A flag is a number; it is set if it is 1.
-ghost use Rattle.std.specs.Prelude.{◌≡◌, not, ◌&&◌};
+ghost use Rattle.std.specs.Prelude.{◌≡◌};
 ghost use Rattle.trm_word.specs.Condition.{condition_holds};
-
-// `test`, and false if Z is set.
-fn unless_zero(test: bool, z: bool) -> bool
-    ensures { result ≡ (test && not z) }
-{
-    if test { !z } else { false }
-}
 
 // Whether the condition holds for these flags.
 pub fn condition_holds(condition: u64, n: u64, z: u64, c: u64, v: u64) -> bool
@@ -28,12 +21,12 @@ pub fn condition_holds(condition: u64, n: u64, z: u64, c: u64, v: u64) -> bool
         5 => !n,
         6 => v,
         7 => !v,
-        8 => unless_zero(c, z),
-        9 => !unless_zero(c, z),
+        8 => c && !z,
+        9 => !(c && !z),
         10 => n == v,
         11 => n != v,
-        12 => unless_zero(n == v, z),
-        13 => !unless_zero(n == v, z),
+        12 => n == v && !z,
+        13 => !(n == v && !z),
         14 => true,
         _ => false,
     }

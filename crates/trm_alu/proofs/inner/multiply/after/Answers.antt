@@ -1,61 +1,45 @@
 -- `multiple` gives the register plus 2^63; from k = 32 on the top bit of A subtracts B × 2^31 (Laws.Product).
-use Rattle.std.proofs.Common.{◌≡◌, ℕ, ◌+◌, ◌-◌, ◌*◌, ◌/◌, ◌%◌, ◌^◌, ◌<◌, ◌≤◌, sym, ap, ◌∙◌, mul-le-mul_right, arith}
-use Rattle.trm_alu.specs.Word.{biased}
+use Rattle.std.proofs.Common.{◌≡◌, ℕ, ◌-◌, ◌*◌, ◌/◌, ◌%◌, ◌^◌, ◌<◌, sym, arith}
 use Rattle.trm_alu.proofs.Laws.Modular.{shl_mod}
 use Rattle.trm_alu.proofs.Laws.Product.{top, top-fits, partial-word, product-word}
 use Rattle.trm_alu.proofs.inner.multiply.after.Goals as goal
+use Rattle.trm_alu.proofs.inner.multiply.after.Goals.{then-k-lt32, else-k-lt32+then-a-lt2147483648, else-k-lt32+else-a-lt2147483648}
 
 top-shl : (a k : ℕ) → k < 32 → (a * 2 ^ (32 - k)) % 2 ^ 64 % 2 ^ 32 ≡ top a k
 top-shl a k h = omega (arith, shl_mod a k (32 - k) 32 (omega arith))
 
--- what the second call of `multiple` gives
-whole : (a b c r : ℕ) → r + 2 ^ 31 * (a % 2 ^ 31) ≡ c * (a % 2 ^ 31) + 0 + 2 ^ 63 → c ≡ biased b
-    → r + 2 ^ 31 * (a % 2 ^ 31) ≡ biased b * (a % 2 ^ 31) + 2 ^ 63
-whole a b c r given is =
-    let s = a % 2 ^ 31 in
-    omega (arith, given, ap (λ (x : ℕ). x * s) is)
-
-pub multiple-n-requires : goal.multiple-n-requires
-multiple-n-requires c =
+pub multiple-biased-requires : goal.multiple-biased-requires
+multiple-biased-requires c =
     let a = c.args.a in
     let k = c.args.k in
     let l : k < 32 = omega (arith, c.if-k-lt32.true) in (
       omega (arith, c.biased-c.ensures),
-      rw (top-shl a k l) (top-fits a c.args.b k c.ranges.a.fits c.ranges.b.fits l),
+      rw (c.from-w.ensures, top-shl a k l) (top-fits a c.args.b k c.ranges.a.fits c.ranges.b.fits l),
     )
-
-pub returns-then-k-lt32 : goal.returns-then-k-lt32
-returns-then-k-lt32 c =
-    let a = c.args.a in
-    let k = c.args.k in
-    let l : k < 32 = omega (arith, c.if-k-lt32.true) in
-    c.wrapping_add_u64.ensures.value
-    ∙ sym
-    (partial-word a c.args.b k c.ranges.a.fits c.ranges.b.fits l c.multiple-n.result
-    (rw (c.biased-c.ensures, top-shl a k l) at c.multiple-n.ensures))
-
-pub returns-then-a-lt2147483648 : goal.returns-then-a-lt2147483648
-returns-then-a-lt2147483648 c =
-    let a = c.args.a in
-    let k : 32 ≤ c.args.k = omega (arith, c.if-k-lt32.false) in
-    let top : a / 2 ^ 31 ≡ 0 = omega (arith, c.if-a-lt2147483648.true) in
-    c.wrapping_add_u64-then-a-lt2147483648.ensures.value
-    ∙ sym
-    (product-word a c.args.b _ _ _ k c.ranges.a.fits c.ranges.b.fits (whole _ _ _ _ c.multiple-n-2.ensures c.biased-c.ensures)
-    (rw top (omega arith)))
-
-pub overflow_add-n : goal.overflow_add-n
-overflow_add-n c =
-    let l : biased c.args.b ≤ 2 ^ 32 = omega arith in
-    omega (arith, whole _ _ _ _ c.multiple-n-2.ensures c.biased-c.ensures, mul-le-mul_right (c.args.a % 2 ^ 31) l)
 
 pub returns : goal.returns
 returns c =
     let a = c.args.a in
-    let k : 32 ≤ c.args.k = omega (arith, c.if-k-lt32.false) in
-    let top : a / 2 ^ 31 ≡ 1 = omega (arith, c.if-a-lt2147483648.false) in
-    c.wrapping_add_u64-2.ensures.value
-    ∙ sym
-    (product-word a c.args.b _ c.multiple-n-2.result _ k c.ranges.a.fits c.ranges.b.fits
-    (whole _ _ _ _ c.multiple-n-2.ensures c.biased-c.ensures)
-    (rw top (omega arith)))
+    let b = c.args.b in
+    let k = c.args.k in
+    let word-a = c.ranges.a.fits in
+    let word-b = c.ranges.b.fits in
+    let n = c.if-k-lt32.biased in
+    elim c.if-k-lt32.branch [
+      | then-k-lt32 w ↦
+          let l : k < 32 = omega (arith, w.if-k-lt32.true) in
+          let e = rw (c.biased-c.ensures, c.from-w.ensures, top-shl a k l) at w.multiple-biased.ensures in
+          sym (partial-word a b k word-a word-b l n (rw w.biased-is e))
+      | else-k-lt32+then-a-lt2147483648 w ↦
+          let e = rw (c.biased-c.ensures, c.from-w.ensures) at w.multiple.ensures in
+          let low : a % 2 ^ 31 ≡ a = omega (arith, w.if-a-lt2147483648.true) in
+          let top : a / 2 ^ 31 ≡ 0 = omega (arith, w.if-a-lt2147483648.true) in
+          sym (product-word a b k n n w.if-k-lt32.false word-a word-b (rw (low, w.biased-is) (omega (arith, e))) (rw top (omega arith)))
+      | else-k-lt32+else-a-lt2147483648 w ↦
+          let m = w.multiple-else-a-lt2147483648.result in
+          let e = rw (c.biased-c.ensures, c.from-w.ensures) at w.multiple-else-a-lt2147483648.ensures in
+          let low : a % 2 ^ 31 ≡ a - 2 ^ 31 = omega (arith, w.if-a-lt2147483648.false) in
+          let top : a / 2 ^ 31 ≡ 1 = omega (arith, w.if-a-lt2147483648.false) in
+          sym (product-word a b k m n w.if-k-lt32.false word-a word-b (rw low (omega (arith, e)))
+          (rw (top, w.biased-is, c.biased-c.ensures) (omega (arith, e))))
+    ]

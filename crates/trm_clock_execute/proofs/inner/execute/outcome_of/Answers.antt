@@ -9,10 +9,6 @@ unfolding result_of high_of
 returns-then-op-eq8 c = λ h. let ends = theorems.mul_ends c.args.a c.args.b in
     rw (eq-eqb _ _ c.if-op-eq8.true, c.requires.0 c.if-op-eq8.true, ends.0, ends.1)
 
-pub finish-d-requires : goal.finish-d-requires
-unfolding result_of high_of
-finish-d-requires c = let nine = c.requires.1 c.if-op-eq8.false in (c.requires.2 nine, c.requires.3 nine)
-
 pub returns : goal.returns
 unfolding result_of high_of
 returns c = λ h. rw (ne_eqb _ _ c.if-op-eq8.false, eq-eqb _ _ (c.requires.1 c.if-op-eq8.false), c.finish-d.ensures)
