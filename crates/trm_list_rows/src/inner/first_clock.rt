@@ -17,6 +17,7 @@ use trm_clock_operands::inner::operands;
 use trm_clock_scalars::inner::steps;
 use trm_core::record::Scalars;
 use trm_word::inner::address::Place;
+use trm_word::inner::charge::Charges;
 
 // 12 LD: uncached, the first wait; a miss, the tag-check clock; a hit or a device, the last clock is due.
 fn first_load(
@@ -77,13 +78,13 @@ fn first_arithmetic(
     store: &mut [u32],
     w: u32,
     input: u32,
-    base: &[u64; 16],
+    base: &Charges,
 ) -> Clocked
     requires { (Good w (length store.old) c regs.old cache.old)
-        × (c.running.phase ≡ 0) × (operation w < 11) × (base.now ≡ charges) }
+        × (c.running.phase ≡ 0) × (operation w < 11) }
     ensures { Works w c input regs.old cache.old store.old result regs.new cache.new store.new }
 {
-    if base[(w / 0x4000 % 16) as usize] == 1 {
+    if base.of(w) == 1 {
         return outcome::carried(execute::short(c, regs, w));
     }
     outcome::goes_on(c, steps::first_step(c, regs, w), 0, 0)
@@ -97,10 +98,10 @@ pub fn first_clock(
     store: &mut [u32],
     w: u32,
     input: u32,
-    base: &[u64; 16],
+    base: &Charges,
 ) -> Clocked
     requires { (Good w (length store.old) c regs.old cache.old)
-        × (c.running.phase ≡ 0) × (base.now ≡ charges) }
+        × (c.running.phase ≡ 0) }
     ensures { Works w c input regs.old cache.old store.old result regs.new cache.new store.new }
 {
     let op = w / 0x4000 % 16;

@@ -2,7 +2,6 @@
 // Paper: "1 arithmetic, 1-32; 2 write-back, 0-9 ..; 3 refill, 0-9; 4 uncached wait, 1-5 for LD, 1-4 for ST; 5 last clock due, 0".
 // Each is one match on the phase. A run has both in one turn; a listing needs the last clock alone, as it may have a row (D-66).
 ghost use Rattle.std.specs.Prelude.{◌≡◌, ◌≢◌, ◌<◌, length};
-ghost use Rattle.trm_word.specs.Charge.{charges};
 ghost use Rattle.trm_clock_laws.specs.Good.{Good};
 ghost use Rattle.trm_clock_laws.specs.Made.{Works, Ends};
 ghost use Rattle.trm_run_phases.specs.Reached.{point, Under, Quietly};
@@ -14,6 +13,7 @@ use trm_clock_phases::inner::phase_ends;
 use trm_core::record::Scalars;
 use trm_run_phases::inner::going::Going;
 use trm_run_phases::inner::{phase_clocks, step_clocks};
+use trm_word::inner::charge::Charges;
 
 // The clocks of the phase but for its last. In phase 5 there is none.
 pub fn flight_ahead(
@@ -23,10 +23,9 @@ pub fn flight_ahead(
     store: &mut [u32],
     w: u32,
     pins: &[u8],
-    base: &[u64; 16],
+    base: &Charges,
 ) -> Going
-    requires { Under pins.now w (point g regs.now cache.old store.old)
-        × (base.now ≡ charges) × (g.scalars.running.phase ≢ 0) × (g.scalars.running.phase ≢ 5) }
+    requires { Under pins.now w (point g regs.now cache.old store.old) × (g.scalars.running.phase ≢ 0) × (g.scalars.running.phase ≢ 5) }
     ensures { Quietly pins.now w (point g regs.now cache.old store.old) (point result regs.now cache.new store.new)
         × (result.scalars.pc ≡ g.scalars.pc) × (result.scalars.running.phase ≡ g.scalars.running.phase) × (result.finished ≡ g.finished)
         × (result.at < length pins.now → Ends w result.scalars.running) }

@@ -2,7 +2,6 @@
 // Paper: "Kind 3 ..: count .., line byte, input word"; "an unfinished instruction has no line".
 // Clocks that cannot end a word are run together; every other clock is run alone, so that its row is known (D-66).
 ghost use Rattle.std.specs.Prelude.{◌≡◌, ◌≢◌, false, cond, List, ℕ, ◌+◌, ◌≤◌, ◌<◌, ltb, length};
-ghost use Rattle.trm_word.specs.Charge.{charges};
 ghost use Rattle.trm_reference.specs.Visible.{word_at};
 ghost use Rattle.trm_reference.specs.Interrupt.{stalled, interrupt_chosen};
 ghost use Rattle.trm_clock_laws.specs.Made.{Ends};
@@ -14,6 +13,7 @@ use trm_cache::record::Cache;
 use trm_clock_operands::inner::operands;
 use trm_clock_scalars::inner::interrupt;
 use trm_run_phases::inner::going::Going;
+use trm_word::inner::charge::Charges;
 
 // The smaller of two numbers.
 fn least(a: usize, b: usize) -> usize
@@ -34,12 +34,12 @@ fn gone_ahead(
     store: &mut [u32],
     pins: u8,
     input: u32,
-    base: &[u64; 16],
+    base: &Charges,
     m: usize,
 ) -> Listed
     requires { Able program.now (lent_of l regs.now cache.old store.old)
         l.took l.left (record { line_byte = pins; input = input })
-        × (stalled pins ≡ false) × (l.scalars.running.phase ≢ 0) × (base.now ≡ charges) × (m ≤ l.left) × (m ≤ 64) }
+        × (stalled pins ≡ false) × (l.scalars.running.phase ≢ 0) × (m ≤ l.left) × (m ≤ 64) }
     ensures { ((b : List ℕ) → l.len ≤ length b → Onward program.now (record { line_byte = pins; input = input })
         l (lent_of l regs.now cache.old store.old) b result (lent_of result regs.now cache.new store.new) b)
         × (result.scalars.pc ≡ l.scalars.pc) × (result.scalars.running.phase ≢ 0) × (result.len ≡ l.len) × (result.left ≤ l.left)
@@ -76,13 +76,13 @@ fn goes_on(
     store: &mut [u32],
     pins: u8,
     input: u32,
-    base: &[u64; 16],
+    base: &Charges,
     buf: &mut [u8],
 ) -> Listed
     requires { Able program.now (lent_of l regs.old cache.old store.old)
         l.took l.left (record { line_byte = pins; input = input })
         × (0 < l.left) × (l.len + 32 ≤ length buf.old) × (stalled pins ≡ false)
-        × (l.scalars.running.phase ≢ 0) × (base.now ≡ charges) }
+        × (l.scalars.running.phase ≢ 0) }
     ensures { Onward program.now (record { line_byte = pins; input = input })
         l (lent_of l regs.old cache.old store.old) buf.old result (lent_of result regs.new cache.new
         store.new) buf.new × (result.left < l.left) }
@@ -107,13 +107,13 @@ fn begins(
     store: &mut [u32],
     pins: u8,
     input: u32,
-    base: &[u64; 16],
+    base: &Charges,
     buf: &mut [u8],
 ) -> Listed
     requires { Able program.now (lent_of l regs.old cache.old store.old)
         l.took l.left (record { line_byte = pins; input = input })
         × (0 < l.left) × (l.len + 32 ≤ length buf.old) × (stalled pins ≡ false)
-        × (l.scalars.running.phase ≡ 0) × (interrupt_chosen l.scalars.status pins ≡ 0) × (base.now ≡ charges) }
+        × (l.scalars.running.phase ≡ 0) × (interrupt_chosen l.scalars.status pins ≡ 0) }
     ensures { Onward program.now (record { line_byte = pins; input = input })
         l (lent_of l regs.old cache.old store.old) buf.old result (lent_of result regs.new cache.new
         store.new) buf.new × (result.left < l.left) }
@@ -156,12 +156,12 @@ fn one_turn(
     store: &mut [u32],
     pins: u8,
     input: u32,
-    base: &[u64; 16],
+    base: &Charges,
     buf: &mut [u8],
 ) -> Listed
     requires { Able program.now (lent_of l regs.old cache.old store.old)
         l.took l.left (record { line_byte = pins; input = input })
-        × (0 < l.left) × (l.len + 32 ≤ length buf.old) × (stalled pins ≡ false) × (base.now ≡ charges) }
+        × (0 < l.left) × (l.len + 32 ≤ length buf.old) × (stalled pins ≡ false) }
     ensures { Onward program.now (record { line_byte = pins; input = input })
         l (lent_of l regs.old cache.old store.old) buf.old result (lent_of result regs.new cache.new
         store.new) buf.new × (result.left < l.left) }
@@ -185,12 +185,12 @@ pub fn list_clocks(
     store: &mut [u32],
     pins: u8,
     input: u32,
-    base: &[u64; 16],
+    base: &Charges,
     buf: &mut [u8],
 ) -> Listed
     requires { Able program.now (lent_of l regs.old cache.old store.old)
         l.took l.left (record { line_byte = pins; input = input })
-        × (l.len ≤ length buf.old) × (stalled pins ≡ false) × (base.now ≡ charges) }
+        × (l.len ≤ length buf.old) × (stalled pins ≡ false) }
     ensures { Onward program.now (record { line_byte = pins; input = input })
         l (lent_of l regs.old cache.old store.old) buf.old result (lent_of result regs.new cache.new store.new) buf.new
         × (result.left ≢ 0 → length buf.old < result.len + 32) }

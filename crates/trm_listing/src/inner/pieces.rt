@@ -13,6 +13,7 @@ use trm_list_rows::inner::listed::Listed;
 use trm_list_text::inner::row_text;
 use trm_run_machine::inner::zero_record as reset;
 use trm_run_machine::machine::Machine;
+use trm_word::inner::charge::Charges;
 
 // The machine; the number of its program's words; where the next record begins; of the current run the clocks left, line byte and input
 // word; the unheld clocks of the word in flight; how far the buffer is filled, and whether the listing is over.
@@ -118,7 +119,7 @@ pub fn next_piece(
     let c = m.scalars;
     let mut regs = m.regs;
     let mut cache = m.cache;
-    let base = trm_word::inner::charge::base_charges();
+    let base = Charges::new();
     let begun = Listed {
         scalars: c,
         left: l.left,

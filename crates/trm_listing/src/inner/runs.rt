@@ -2,7 +2,6 @@
 // Paper: "Kind 3, any number: 9 bytes, count 1-65,536 (4), line byte, input word (4)"; "A clock with stall set is held".
 // All clocks of a run have the same line byte, so a run is held as a whole or not at all.
 ghost use Rattle.std.specs.Prelude.{◌≡◌, ◌≢◌, ◌+◌, ◌≤◌, ◌<◌, length};
-ghost use Rattle.trm_word.specs.Charge.{charges};
 ghost use Rattle.trm_image.specs.Records.{length_at};
 ghost use Rattle.trm_image.specs.Refused.{count_at, line_byte_at, input_at};
 ghost use Rattle.trm_list_rows.specs.Onward.{lent_of, Able, Onward};
@@ -14,6 +13,7 @@ use trm_core::record::Scalars;
 use trm_image::inner::{bytes, payload_part};
 use trm_list_rows::inner::listed::Listed;
 use trm_list_rows::inner::row_clocks;
+use trm_word::inner::charge::Charges;
 
 // The place of a listing in an image: within a run, and where the record after it begins.
 #[derive(Clone, Copy)]
@@ -46,12 +46,12 @@ fn run_clocks(
     store: &mut [u32],
     pins: u8,
     input: u32,
-    base: &[u64; 16],
+    base: &Charges,
     buf: &mut [u8],
 ) -> Listed
     requires { Able program.now (lent_of l regs.old cache.old store.old)
         l.took l.left (record { line_byte = pins; input = input })
-        × (l.len ≤ length buf.old) × (base.now ≡ charges) }
+        × (l.len ≤ length buf.old) }
     ensures { Onward program.now (record { line_byte = pins; input = input })
         l (lent_of l regs.old cache.old store.old) buf.old result (lent_of result regs.new cache.new store.new) buf.new
         × (result.left ≢ 0 → length buf.old < result.len + 32) }
@@ -113,11 +113,10 @@ fn run_here(
     regs: &mut [u32; 16],
     cache: &mut Cache,
     store: &mut [u32],
-    base: &[u64; 16],
+    base: &Charges,
     buf: &mut [u8],
 ) -> Place
-    requires { Stands image.now program.now q (lent_of q.listed regs.old cache.old store.old) buf.old
-        × (base.now ≡ charges) }
+    requires { Stands image.now program.now q (lent_of q.listed regs.old cache.old store.old) buf.old }
     ensures { Along image.now program.now q (lent_of q.listed regs.old cache.old store.old) buf.old result
         (lent_of result.listed regs.new cache.new store.new) buf.new
         × (result.listed.left ≢ 0 → length buf.old < result.listed.len + 32) × (result.at ≡ q.at) }
@@ -140,11 +139,10 @@ pub fn list_runs(
     regs: &mut [u32; 16],
     cache: &mut Cache,
     store: &mut [u32],
-    base: &[u64; 16],
+    base: &Charges,
     buf: &mut [u8],
 ) -> Place
-    requires { Stands image.now program.now q (lent_of q.listed regs.old cache.old store.old) buf.old
-        × (base.now ≡ charges) }
+    requires { Stands image.now program.now q (lent_of q.listed regs.old cache.old store.old) buf.old }
     ensures { Along image.now program.now q (lent_of q.listed regs.old cache.old store.old) buf.old result
         (lent_of result.listed regs.new cache.new store.new) buf.new
         × (result.listed.left ≢ 0 → length buf.old < result.listed.len + 32)

@@ -2,7 +2,6 @@
 // Paper: "In 1 to 4 the count is the clocks of that phase done".
 // A function for each phase, so that each is compiled with its own loop (P-29); one law proves them (Laws.Flight).
 ghost use Rattle.std.specs.Prelude.{◌≡◌, ◌≢◌, false, ◌&&◌, ◌<◌, length, get_or};
-ghost use Rattle.trm_word.specs.Charge.{charges};
 ghost use Rattle.trm_reference.specs.Visible.{word_at};
 ghost use Rattle.trm_reference.specs.Access.{is_load};
 ghost use Rattle.trm_reference.specs.Interrupt.{stalled};
@@ -14,6 +13,7 @@ use trm_clock_operands::inner::operands;
 use trm_clock_phases::inner::phase_ends;
 use trm_run_phases::inner::going::Going;
 use trm_run_phases::inner::{going, phase_clocks, step_clocks};
+use trm_word::inner::charge::Charges;
 
 // Phase 1: the steps left, then the clock after them.
 fn step_turn(
@@ -27,11 +27,11 @@ fn step_turn(
     inputs: &[u32],
     bytes: &mut [u8],
     outs: &mut [u32],
-    base: &[u64; 16],
+    base: &Charges,
 ) -> Going
     requires { At program.now pins.now inputs.now (point g regs.old cache.old store.old) bytes.old outs.old
         × (w ≡ word_at program.now g.scalars.pc) × (g.scalars.running.phase ≡ 1)
-        × (g.at < length pins.now) × (stalled (get_or pins.now g.at 0) ≡ false) × (base.now ≡ charges) }
+        × (g.at < length pins.now) × (stalled (get_or pins.now g.at 0) ≡ false) }
     ensures { Turned program.now pins.now inputs.now (point g regs.old cache.old store.old) bytes.old outs.old
         (point result regs.new cache.new store.new) bytes.new outs.new × (g.at < result.at) × (bytes.new ≡ bytes.old) }
 {
@@ -112,11 +112,11 @@ fn wait_turn(
     inputs: &[u32],
     bytes: &mut [u8],
     outs: &mut [u32],
-    base: &[u64; 16],
+    base: &Charges,
 ) -> Going
     requires { At program.now pins.now inputs.now (point g regs.old cache.old store.old) bytes.old outs.old
         × (w ≡ word_at program.now g.scalars.pc) × (g.scalars.running.phase ≡ 4)
-        × (g.at < length pins.now) × (stalled (get_or pins.now g.at 0) ≡ false) × (base.now ≡ charges) }
+        × (g.at < length pins.now) × (stalled (get_or pins.now g.at 0) ≡ false) }
     ensures { Turned program.now pins.now inputs.now (point g regs.old cache.old store.old) bytes.old outs.old
         (point result regs.new cache.new store.new) bytes.new outs.new × (g.at < result.at) × (bytes.new ≡ bytes.old) }
 {
@@ -181,11 +181,11 @@ pub fn flight_turn(
     inputs: &[u32],
     bytes: &mut [u8],
     outs: &mut [u32],
-    base: &[u64; 16],
+    base: &Charges,
     stops: bool,
 ) -> Going
     requires { At program.now pins.now inputs.now (point g regs.old cache.old store.old) bytes.old outs.old
-        × (w ≡ word_at program.now g.scalars.pc) × (base.now ≡ charges)
+        × (w ≡ word_at program.now g.scalars.pc)
         × (g.at < length pins.now) × (stalled (get_or pins.now g.at 0) ≡ false) × (g.scalars.running.phase ≢ 0) }
     ensures { Turned program.now pins.now inputs.now (point g regs.old cache.old store.old) bytes.old outs.old
         (point result regs.new cache.new store.new) bytes.new outs.new × Did stops g.at result.at bytes.old bytes.new }

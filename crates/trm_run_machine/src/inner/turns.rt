@@ -2,7 +2,6 @@
 // Paper: "A clock with stall set is held"; "An unheld clock with no instruction in flight takes an interrupt if .. Otherwise it begins
 // an instruction".
 ghost use Rattle.std.specs.Prelude.{◌≡◌, true, false, ◌&&◌, ◌<◌, ◌≤◌, length, eqb};
-ghost use Rattle.trm_word.specs.Charge.{charges};
 ghost use Rattle.trm_run_phases.specs.Reached.{point, At, Turned, Did};
 
 use trm_cache::record::Cache;
@@ -12,6 +11,7 @@ use trm_run_flight::inner::flight_turn;
 use trm_run_phases::inner::going::Going;
 use trm_run_phases::inner::{going, phase_clocks};
 use trm_run_words::inner::words_turn;
+use trm_word::inner::charge::Charges;
 
 // One turn: one or more clocks.
 pub fn turn(
@@ -24,11 +24,11 @@ pub fn turn(
     inputs: &[u32],
     bytes: &mut [u8],
     outs: &mut [u32],
-    base: &[u64; 16],
+    base: &Charges,
     stops: bool,
 ) -> Going
     requires { At program.now pins.now inputs.now (point g regs.old cache.old
-        store.old) bytes.old outs.old × (base.now ≡ charges) × (g.at < length pins.now) }
+        store.old) bytes.old outs.old × (g.at < length pins.now) }
     ensures { Turned program.now pins.now inputs.now (point g regs.old cache.old store.old) bytes.old outs.old
         (point result regs.new cache.new store.new) bytes.new outs.new × Did stops g.at result.at bytes.old bytes.new }
 {
@@ -83,7 +83,7 @@ pub fn all_turns(
         bytes.new outs.new × (stops ≡ false → length pins.now ≤ result.at) × (g.at ≤ result.at)
         × (stops ≡ true → bytes.new ≡ bytes.old) }
 {
-    let base = trm_word::inner::charge::base_charges();
+    let base = Charges::new();
     while g.at < pins.len() {
         let before = g.at;
         g = turn(

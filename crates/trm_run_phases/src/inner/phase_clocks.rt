@@ -3,7 +3,7 @@
 // What stays the same during a phase is computed once. If a clock is left and not held, it ends the phase: see trm_clock_phases.
 ghost use Rattle.std.specs.Prelude.{◌≡◌, true, cond, ℕ, ◌+◌, ◌*◌, ◌≤◌, ◌<◌, length, get_or};
 ghost use Rattle.trm_word.specs.Fields.{operation};
-ghost use Rattle.trm_word.specs.Charge.{charges, charge_of};
+ghost use Rattle.trm_word.specs.Charge.{charge_of};
 ghost use Rattle.trm_reference.specs.Geometry.{paper_geometry};
 ghost use Rattle.trm_reference.specs.Interrupt.{stalled};
 ghost use Rattle.trm_cache.specs.Cache.{line_at, write_word, fill_word};
@@ -17,6 +17,7 @@ use trm_clock_bursts::inner::burst_clock;
 use trm_clock_operands::inner::operands;
 use trm_clock_scalars::inner::{interrupt, scalars};
 use trm_core::record::Scalars;
+use trm_word::inner::charge::Charges;
 
 // Held clocks.
 pub fn held_ahead(g: Going, regs: &[u32; 16], cache: &Cache, store: &[u32], pins: &[u8]) -> Going
@@ -162,15 +163,15 @@ pub fn wait_ahead(
     store: &[u32],
     w: u32,
     pins: &[u8],
-    base: &[u64; 16],
+    base: &Charges,
 ) -> Going
     requires { Under pins.now w (point g regs.now cache.now store.now)
-        × (g.scalars.running.phase ≡ 4) × (base.now ≡ charges) }
+        × (g.scalars.running.phase ≡ 4) }
     ensures { Quietly pins.now w (point g regs.now cache.now store.now) (point result regs.now cache.now store.now)
         × (result.scalars.pc ≡ g.scalars.pc) × (result.scalars.running.phase ≡ 4) × (g.at ≤ result.at) × (result.finished ≡ g.finished)
         × (result.at < length pins.now → result.scalars.running.count + 1 ≡ charge_of (operation w) + 4) }
 {
-    let all = base[(w / 0x4000 % 16) as usize] + 4;
+    let all = base.of(w) + 4;
     let mut c = g.scalars;
     for i in g.at..pins.len() {
         if c.running.count + 1 == all {

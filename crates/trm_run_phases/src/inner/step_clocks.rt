@@ -3,7 +3,7 @@
 // The registers in flight are packed into one number for the loop and unpacked at its end (D-80).
 ghost use Rattle.std.specs.Prelude.{◌≡◌, cond, ◌+◌, ◌≤◌, ◌^◌, ◌<◌, length};
 ghost use Rattle.trm_word.specs.Fields.{operation};
-ghost use Rattle.trm_word.specs.Charge.{charges, charge_of};
+ghost use Rattle.trm_word.specs.Charge.{charge_of};
 ghost use Rattle.trm_reference.specs.Visible.{Visible};
 ghost use Rattle.trm_reference.specs.Execute.{operand_a, operand_b};
 ghost use Rattle.trm_reference.specs.Interrupt.{stalled};
@@ -16,9 +16,10 @@ ghost use Rattle.trm_run_phases.specs.Reached.{point, Under, Quietly, serial_at,
 use crate::inner::going::Going;
 use trm_cache::record::Cache;
 use trm_clock_operands::inner::operands;
-use trm_clock_scalars::inner::packed_unit::Unit;
 use trm_clock_scalars::inner::interrupt;
+use trm_clock_scalars::inner::packed_unit::Unit;
 use trm_core::record::{Running, Scalars};
+use trm_word::inner::charge::Charges;
 
 // The registers in flight, and the clocks held meanwhile.
 #[derive(Clone, Copy)]
@@ -95,10 +96,10 @@ pub fn steps_ahead(
     store: &[u32],
     w: u32,
     pins: &[u8],
-    base: &[u64; 16],
+    base: &Charges,
 ) -> Going
     requires { Under pins.now w (point g regs.now cache.now store.now)
-        × (g.scalars.running.phase ≡ 1) × (base.now ≡ charges) }
+        × (g.scalars.running.phase ≡ 1) }
     ensures { Quietly pins.now w (point g regs.now cache.now store.now) (point result regs.now cache.now store.now)
         × (result.scalars.pc ≡ g.scalars.pc) × (result.scalars.running.phase ≡ 1) × (g.at ≤ result.at) × (result.finished ≡ g.finished)
         × (result.at < length pins.now → result.scalars.running.count + 1 ≡ charge_of (operation w)) }
@@ -106,7 +107,7 @@ pub fn steps_ahead(
     let a = operands::operand_a(g.scalars, regs, w);
     let b = operands::operand_b(g.scalars, regs, w);
     let divisor = trm_alu::inner::pair::divisor(a);
-    let last = base[(w / 0x4000 % 16) as usize] - 1; // the number of steps
+    let last = base.of(w) - 1; // the number of steps
     let mut u = Unit::pack(g.scalars.running, w);
     let left = pins.len() - g.at;
     for k in 0..left {

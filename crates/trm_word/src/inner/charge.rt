@@ -3,6 +3,7 @@
 // A definition cannot read a constant of the code, so specs/Charge.antt has the same list, proved equal (D-23).
 ghost use Rattle.std.specs.Prelude.{◌≡◌, ◌<◌};
 ghost use Rattle.trm_word.specs.Charge.{charges, charge_of};
+ghost use Rattle.trm_word.specs.Fields.{operation};
 
 pub const BASE_CHARGES: [u64; 16] = [
     1, // 0 MOV
@@ -31,9 +32,24 @@ pub fn base_charge(operation: usize) -> u64
     BASE_CHARGES[operation]
 }
 
-// The whole table.
-pub fn base_charges() -> [u64; 16]
-    ensures { result ≡ charges }
-{
-    BASE_CHARGES
+// The table as a value: a loop over clocks makes it once and lends it (D-54).
+#[derive(Clone, Copy)]
+pub struct Charges {
+    pub table: [u64; 16],
+    pub ghost papers: { table ≡ charges },
+}
+
+impl Charges {
+    pub fn new() -> Charges {
+        Charges {
+            table: BASE_CHARGES,
+        }
+    }
+
+    // The base charge of a word.
+    pub fn of(&self, w: u32) -> u64
+        ensures { result ≡ charge_of (operation w) }
+    {
+        self.table[(w / 0x4000 % 16) as usize]
+    }
 }

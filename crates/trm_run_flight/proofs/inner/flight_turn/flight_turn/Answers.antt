@@ -5,43 +5,41 @@ pub step_turn-requires : goal.step_turn-requires
 step_turn-requires c =
     let a = c.requires.0 in
     let wd = c.requires.1 in
-    let ba = c.requires.2 in
-    let mo = c.requires.3 in
-    let fr = c.requires.4 in
-    (a, wd, c.in-1.is, mo, fr, ba)
+    let mo = c.requires.2 in
+    let fr = c.requires.3 in
+    (a, wd, c.in-1.is, mo, fr)
 
 pub write_turn-requires : goal.write_turn-requires
 write_turn-requires c =
     let a = c.requires.0 in
     let wd = c.requires.1 in
-    let mo = c.requires.3 in
-    let fr = c.requires.4 in
+    let mo = c.requires.2 in
+    let fr = c.requires.3 in
     (a, wd, c.in-2.is, mo, fr)
 
 pub fill_turn-requires : goal.fill_turn-requires
 fill_turn-requires c =
     let a = c.requires.0 in
     let wd = c.requires.1 in
-    let mo = c.requires.3 in
-    let fr = c.requires.4 in
+    let mo = c.requires.2 in
+    let fr = c.requires.3 in
     (a, wd, c.in-3.is, mo, fr)
 
 pub wait_turn-requires : goal.wait_turn-requires
 wait_turn-requires c =
     let a = c.requires.0 in
     let wd = c.requires.1 in
-    let ba = c.requires.2 in
-    let mo = c.requires.3 in
-    let fr = c.requires.4 in
-    (a, wd, c.in-4.is, mo, fr, ba)
+    let mo = c.requires.2 in
+    let fr = c.requires.3 in
+    (a, wd, c.in-4.is, mo, fr)
 
 pub last_turn-requires : goal.last_turn-requires
 last_turn-requires c =
     let a = c.requires.0 in
     let wd = c.requires.1 in
-    let mo = c.requires.3 in
-    let fr = c.requires.4 in
-    let p0 = c.requires.5 in
+    let mo = c.requires.2 in
+    let fr = c.requires.3 in
+    let p0 = c.requires.4 in
     let r = c.in_default.in_default-own.rest in
     (a, wd, mo, fr, p0, r.0.0.0.1, r.0.0.1, r.0.1, r.1)
 

@@ -6,7 +6,7 @@ use Rattle.trm_run_flight.proofs.inner.flight_turn.step_turn.Goals as goal
 pub steps_ahead-h-requires : goal.steps_ahead-h-requires
 steps_ahead-h-requires c =
     let pre = c.requires in
-    (under_at _ _ _ _ _ _ _ pre.0 pre.1, pre.2, pre.5)
+    (under_at _ _ _ _ _ _ _ pre.0 pre.1, pre.2)
 
 pub returns-then-not-due : goal.returns-then-not-due
 returns-then-not-due c =

@@ -11,7 +11,7 @@ loop-g-init c = ((λ x so. so), omega arith, λ _. refl)
 pub turn-g-requires : goal.turn-g-requires
 turn-g-requires c =
     let c-pre = c.requires in
-    (record { from = c-pre.from; so = c.loop-g.invariant.0 _ c-pre.so }, c.base_charges-base.ensures, c.loop-g-test.true)
+    (record { from = c-pre.from; so = c.loop-g.invariant.0 _ c-pre.so }, c.loop-g-test.true)
 
 pub shape_of-store-then-no_progress : goal.shape_of-store-then-no_progress
 shape_of-store-then-no_progress c =

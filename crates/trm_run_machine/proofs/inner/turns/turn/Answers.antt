@@ -10,13 +10,13 @@ use Rattle.trm_run_machine.proofs.inner.turns.turn.Goals as goal
 pub bounds-pins-at : goal.bounds-pins-at
 bounds-pins-at c =
     let c-pre = c.requires in
-    c-pre.2
+    c-pre.1
 
 pub held_ahead-requires : goal.held_ahead-requires
 held_ahead-requires c =
     let c-pre = c.requires in
     let a = c-pre.0 in
-    let mo = c-pre.2 in (
+    let mo = c-pre.1 in (
       record { word = _; under = under_at _ _ _ _ _ _ _ a refl },
       mo,
       sym c.is_stalled.ensures ∙ c.if-is_stalled.true,
@@ -30,12 +30,10 @@ pub flight_turn-requires : goal.flight_turn-requires
 flight_turn-requires c =
     let c-pre = c.requires in
     let a = c-pre.0 in
-    let ba = c-pre.1 in
-    let mo = c-pre.2 in
+    let mo = c-pre.1 in
     let fr = sym c.is_stalled.ensures ∙ c.if-is_stalled.false in (
       a,
       c.word_at-w.ensures,
-      ba,
       mo,
       fr,
       c.if-c-ne0.true,
@@ -56,14 +54,14 @@ pub quietly-requires : goal.quietly-requires
 quietly-requires c =
     let c-pre = c.requires in
     let a = c-pre.0 in
-    let mo = c-pre.2 in
+    let mo = c-pre.1 in
     let k = few-done _ _ _ _ _ _ _ _ _ _ a.so mo in
     (k.0, k.1, omega arith)
 
 pub returns-then-to-ne0 : goal.returns-then-to-ne0
 returns-then-to-ne0 c =
     let c-pre = c.requires in
-    let mo = c-pre.2 in
+    let mo = c-pre.1 in
     let fr = sym c.is_stalled.ensures ∙ c.if-is_stalled.false in (
       λ x₀ k. quiet-answered _ _ _ x₀ _ _ _ _ _ _ k mo _ 0 _ _ _
           (interrupt_here _ _ _ _ _ _ fr c.if-c-ne0.false _ c.interrupt_chosen-to.ensures.0
@@ -76,7 +74,7 @@ pub ready_turn-requires : goal.ready_turn-requires
 ready_turn-requires c =
     let c-pre = c.requires in
     let a = c-pre.0 in
-    let mo = c-pre.2 in
+    let mo = c-pre.1 in
     let fr = sym c.is_stalled.ensures ∙ c.if-is_stalled.false in (
       a,
       record {

@@ -16,7 +16,7 @@ unfolding uncached_charge
 overflow_add-all c =
     omega (
       arith,
-      ap (λ l. get_or l (operation c.args.w) 0) c.requires.2,
+      c.of-all.ensures,
       charge-small c.args.w,
     )
 
@@ -41,9 +41,7 @@ returns-then-c-all c =
       n.phase,
       n.onto,
       refl,
-      λ _. c.if-c-all.true ∙ ap (λ l. get_or l (operation
-          c.args.w) 0 + 4)
-          c.requires.2,
+      λ _. c.if-c-all.true ∙ ap (λ k. k + 4) c.of-all.ensures,
     )
 
 pub bounds-pins-i : goal.bounds-pins-i
@@ -57,8 +55,7 @@ wait_clock-c-requires c =
     let u = c.requires.0 in (
       (good-on _ _ _ _ _ _ _ _ _ _ n u).counts,
       (wait-more _ _ _ _ _ (wait-facts _ _ _ _ _ _ _ _ _ u n) n.phase
-          (λ z. c.if-c-all.false (z ∙ sym (ap (λ l. get_or l (operation c.args.w)
-          0 + 4) c.requires.2)))).1,
+          (λ z. c.if-c-all.false (z ∙ sym (ap (λ k. k + 4) c.of-all.ensures)))).1,
     )
 
 pub loop-i-preserved : goal.loop-i-preserved
@@ -67,7 +64,7 @@ loop-i-preserved c =
     let n = c.loop-i.invariant in
     let u = c.requires.0 in
     wait-on _ _ _ _ _ _ _ _ _ u n c.loop-i-test.true (λ z. c.if-c-all.false (z ∙ sym
-    (ap (λ l. get_or l (operation c.args.w) 0 + 4) c.requires.2))) _ c.wait_clock-c.ensures
+    (ap (λ k. k + 4) c.of-all.ensures))) _ c.wait_clock-c.ensures
 
 pub returns : goal.returns
 unfolding uncached_charge

@@ -12,8 +12,7 @@ pub overflow_sub-last : goal.overflow_sub-last
 overflow_sub-last c =
     omega (
       arith,
-      ap (λ l. get_or l (operation c.args.w) 0)
-          c.requires.2,
+      c.of-last.ensures,
       charge-some
           c.args.w,
     )
@@ -56,9 +55,7 @@ returns-then-u-last c =
           omega (
             arith,
             c.if-u-last.true,
-            ap (λ l. get_or l (operation
-                c.args.w)
-                0) c.requires.2,
+            c.of-last.ensures,
             charge-some c.args.w,
           ),
     )
@@ -80,7 +77,7 @@ serial_clock-u-requires c = (
       (omega (
         arith,
         z,
-        ap (λ l. get_or l (operation c.args.w) 0) c.requires.2,
+        c.of-last.ensures,
         charge-some
             c.args.w,
       ))) _ _
@@ -96,8 +93,7 @@ loop-k-preserved c = (
       (omega (
         arith,
         z,
-        ap (λ l. get_or l (operation c.args.w) 0)
-            c.requires.2,
+        c.of-last.ensures,
         charge-some c.args.w,
       ))) (c.serial_clock-u.ensures _ c.operand_a-a.ensures c.operand_b-b.ensures),
   omega (
