@@ -16,13 +16,12 @@ short-requires c = let g = c.requires in (
   g.0.counts,
   idle-running _ _ _ _ _ (facts _ _ _ _ _ g.0) g.1,
   g.2,
-  cheap_of _ (sym (ap (λ l. get_or l (operation c.args.w) 0) g.3) ∙ c.if-base-w-eq1.true),
+  cheap_of _ (sym (c.of.ensures) ∙ c.if-of-eq1.true),
 )
 
-pub returns-then-base-w-eq1 : goal.returns-then-base-w-eq1
-returns-then-base-w-eq1 c = let g = c.requires in
-    let q = cheap_of _ (sym (ap (λ l. get_or l (operation c.args.w) 0)
-    g.3) ∙ c.if-base-w-eq1.true) in
+pub returns-then-of-eq1 : goal.returns-then-of-eq1
+returns-then-of-eq1 c = let g = c.requires in
+    let q = cheap_of _ (sym (c.of.ensures) ∙ c.if-of-eq1.true) in
     ends-worked _ _ _ _ _ _ _ (first_quick _ _ _ _ _ (facts _ _ _ _ _ g.0) g.1 (kind-short _ _ _ g.2 q)).0 _
     (other-made _ _ _ _ _ _ _ (λ z. omega (arith, g.2, z)) (λ z. omega (arith, g.2, z)) (λ z. omega (arith, g.2, z)) _ _ _
     c.carried.ensures c.short.ensures.0 c.short.ensures.1)
@@ -30,7 +29,7 @@ returns-then-base-w-eq1 c = let g = c.requires in
 pub first_step-requires : goal.first_step-requires
 first_step-requires c = let g = c.requires in (
   (first-longer _ _ _ _ _ (facts _ _ _ _ _ g.0) g.1 (kind-stepped _ _ _ (charged-of _ g.2
-      (λ o. c.if-base-w-eq1.false (ap (λ l. get_or l (operation c.args.w) 0) g.3 ∙ o))))).1,
+      (λ o. c.if-of-eq1.false (c.of.ensures ∙ o))))).1,
   g.1,
 )
 
@@ -41,6 +40,5 @@ pub returns : goal.returns
 returns c = let g = c.requires in
     goes-worked _ _ _ _ _ _ _ _ (first-longer _ _ _ _ _ (facts _ _ _ _ _ g.0) g.1
     (kind-stepped _ _ _ (charged-of _ g.2
-    (λ o. c.if-base-w-eq1.false (ap (λ l. get_or l (operation
-    c.args.w) 0) g.3 ∙ o))))).0
+    (λ o. c.if-of-eq1.false (c.of.ensures ∙ o))))).0
     _ _ _ _ _ _ c.goes_on.ensures (rw c.first_step.ensures)

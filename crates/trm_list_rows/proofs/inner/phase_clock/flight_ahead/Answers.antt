@@ -11,10 +11,9 @@ wait_ahead-requires c =
     let g = c.requires in
     let n = c.in_default.in_default-own.rest in (
       g.0,
-      wait-left _ _ _ _ _ (facts _ _ _ _ _ (good-here _ _ _ _ _ _ _ _ _ _ g.0.so _ g.0.word)) g.2 g.3 n.0.0.1
+      wait-left _ _ _ _ _ (facts _ _ _ _ _ (good-here _ _ _ _ _ _ _ _ _ _ g.0.so _ g.0.word)) g.1 g.2 n.0.0.1
           n.0.1
           n.1,
-      g.1,
     )
 
 pub returns-in-1 : goal.returns-in-1
@@ -66,7 +65,7 @@ returns-in_default c =
     let n = c.in_default.in_default-own.rest in (
       m.0,
       m.1,
-      m.2 ∙ sym (wait-left _ _ _ _ _ (facts _ _ _ _ _ (good-here _ _ _ _ _ _ _ _ _ _ g.0.so _ g.0.word)) g.2 g.3
+      m.2 ∙ sym (wait-left _ _ _ _ _ (facts _ _ _ _ _ (good-here _ _ _ _ _ _ _ _ _ _ g.0.so _ g.0.word)) g.1 g.2
           n.0.0.1 n.0.1 n.1),
       m.4,
       λ more. record {

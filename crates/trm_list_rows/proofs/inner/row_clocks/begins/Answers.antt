@@ -10,7 +10,6 @@ pub first_clock-r-requires : goal.first_clock-r-requires
 first_clock-r-requires c = (
   good_able _ _ c.args.l _ _ _ c.args.buf.now c.requires.0 _ c.word_at-w.ensures,
   c.requires.4,
-  c.requires.6,
 )
 
 pub went-requires : goal.went-requires

@@ -13,7 +13,7 @@ gone_ahead-gone-requires c =
     let pre = c.requires in
     let m = least-bounds c.args.l.left 64 _
     c.least-m.ensures in
-    (pre.0, pre.3, pre.4, pre.5, m.0, m.1)
+    (pre.0, pre.3, pre.4, m.0, m.1)
 
 pub overflow_sub-l : goal.overflow_sub-l
 overflow_sub-l c = c.gone_ahead-gone.ensures.4

@@ -26,19 +26,18 @@ returns-then-c-eq5 c = let p5 = c.if-c-eq5.true in (
 )
 
 pub slice_bounds-same-end : goal.slice_bounds-same-end
-slice_bounds-same-end c = c.requires.5
+slice_bounds-same-end c = c.requires.4
 
 pub slice_bounds-flight_ahead-end : goal.slice_bounds-flight_ahead-end
 slice_bounds-flight_ahead-end c =
     sym (ap length (line_bytes_same _ c.args.pins
-    c.requires.5) ∙ length-replicate _ _)
+    c.requires.4) ∙ length-replicate _ _)
 
 pub flight_ahead-h-requires : goal.flight_ahead-h-requires
 flight_ahead-h-requires c =
     let pre = c.requires in (
       under_able _ _ c.args.l _ _ _ [] pre.0 _
-          pre.4 pre.5 _ (line_bytes_same _ _ pre.5) _ c.word_at-w.ensures,
-      pre.3,
+          pre.3 pre.4 _ (line_bytes_same _ _ pre.4) _ c.word_at-w.ensures,
       pre.2,
       c.if-c-eq5.false,
     )
@@ -47,40 +46,40 @@ pub overflow_sub-result : goal.overflow_sub-result
 overflow_sub-result c =
     let pre = c.requires in
     let q = c.flight_ahead-h.ensures in
-    let below = gone-below _ _ c.args.l _ _ _ [] pre.0 _ pre.4 pre.5 _ (line_bytes_same _ _ pre.5) pre.1 pre.2 _
+    let below = gone-below _ _ c.args.l _ _ _ [] pre.0 _ pre.3 pre.4 _ (line_bytes_same _ _ pre.4) pre.1 pre.2 _
     c.word_at-w.ensures (point
     c.flight_ahead-h.result _ _ _) q.0 q.3 in
-    omega (arith, below, pre.4)
+    omega (arith, below, pre.3)
 
 pub overflow_add-result : goal.overflow_add-result
 overflow_add-result c =
     let pre = c.requires in
     let q = c.flight_ahead-h.ensures in
-    let below = gone-below _ _ c.args.l _ _ _ [] pre.0 _ pre.4 pre.5 _ (line_bytes_same _ _ pre.5) pre.1 pre.2 _
+    let below = gone-below _ _ c.args.l _ _ _ [] pre.0 _ pre.3 pre.4 _ (line_bytes_same _ _ pre.4) pre.1 pre.2 _
     c.word_at-w.ensures (point
     c.flight_ahead-h.result _ _ _) q.0 q.3 in
-    omega (arith, below, pre.5, pre.0.few, pre.0.room)
+    omega (arith, below, pre.4, pre.0.few, pre.0.room)
 
 pub returns : goal.returns
 returns c =
     let pre = c.requires in
     let q = c.flight_ahead-h.ensures in
-    let same = line_bytes_same _ c.args.pins pre.5 in
-    let below = gone-below _ _ c.args.l _ _ _ [] pre.0 _ pre.4 pre.5 _ same pre.1 pre.2 _
+    let same = line_bytes_same _ c.args.pins pre.4 in
+    let below = gone-below _ _ c.args.l _ _ _ [] pre.0 _ pre.3 pre.4 _ same pre.1 pre.2 _
     c.word_at-w.ensures (point
     c.flight_ahead-h.result _ _ _) q.0 q.3 in (
-      λ b f. onward-gone _ _ c.args.l _ _ _ b pre.0 _ pre.4 pre.5 _ same pre.1 pre.2 _
+      λ b f. onward-gone _ _ c.args.l _ _ _ b pre.0 _ pre.3 pre.4 _ same pre.1 pre.2 _
           c.word_at-w.ensures (point
           c.flight_ahead-h.result _ _ _) q.0 q.3 f,
       q.1,
       λ z. pre.2 (sym q.2 ∙ z),
       refl,
       omega arith,
-      omega (arith, below, pre.4),
+      omega (arith, below, pre.3),
       λ more.
           let long = ap length same ∙ length-replicate c.args.m
           c.args.pins in
           subst (λ w. Ends w c.flight_ahead-h.result.scalars.running)
           c.word_at-w.ensures
-          (q.4 (omega (arith, below, pre.4, more, long))),
+          (q.4 (omega (arith, below, pre.3, more, long))),
     )

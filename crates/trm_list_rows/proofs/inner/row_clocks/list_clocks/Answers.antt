@@ -32,7 +32,6 @@ one_turn-g-requires c = (
   omega
       (arith, c.if-buf-g-lt32.false, c.loop-g.invariant.fits),
   c.requires.2,
-  c.requires.3,
 )
 
 pub loop-g-smaller : goal.loop-g-smaller
