@@ -2,7 +2,7 @@
 // Paper: "What a programmer sees", the format of each operation; row 10, "a field outside its width".
 // A field that a form does not have must be 0.
 ghost use Rattle.std.specs.Prelude.{◌≡◌};
-ghost use Rattle.trm_codec.specs.Fields.{fields_of, arithmetic_fields, instruction_at};
+ghost use Rattle.trm_codec.specs.Fields.{fields_of, instruction_at};
 
 use crate::instruction::{Instruction, Operand, Operation};
 
@@ -19,71 +19,86 @@ pub struct Fields {
     pub value: u32,
 }
 
-// The fields of an operation 0-10.
-fn arithmetic_fields(operation: u32, d: u32, operand: Operand) -> Fields
-    ensures { result ≡ arithmetic_fields operation d operand }
-{
-    match operand {
-        Operand::Register(s) => Fields {
-            form: 0,
-            operation,
-            condition: 0,
-            d,
-            s,
-            value: 0,
-        },
-        Operand::Literal(n) => Fields {
-            form: 1,
-            operation,
-            condition: 0,
-            d,
-            s: 0,
-            value: n,
-        },
-    }
-}
-
-// The fields of a form that has neither operation nor condition.
-fn plain_fields(form: u32, d: u32, s: u32, value: u32) -> Fields
-    ensures { result ≡ record { form = form; operation = 0; condition = 0; d = d; s = s; value = value } }
-{
-    Fields {
-        form,
-        operation: 0,
-        condition: 0,
-        d,
-        s,
-        value,
-    }
-}
-
 // The fields of an instruction.
 impl From<Instruction> for Fields {
     ghost from_gives = { λ instruction fields. fields ≡ fields_of instruction };
 
     fn from(instruction: Instruction) -> Fields {
+        let zeros = Fields::default();
         match instruction {
             Instruction::Arithmetic {
                 operation,
                 d,
-                operand,
-            } => arithmetic_fields(u32::from(operation), d, operand),
-            Instruction::MoveHigh { d } => plain_fields(2, d, 0, 0),
-            Instruction::SetStatus { status } => plain_fields(3, 0, 0, status),
-            Instruction::Jump { s } => plain_fields(4, 0, s, 0),
-            Instruction::JumpAndLink { d, s } => plain_fields(5, d, s, 0),
-            Instruction::ReturnFromInterrupt { s } => plain_fields(6, 0, s, 0),
-            Instruction::Load { d, s, offset } => plain_fields(7, d, s, offset),
-            Instruction::Store { d, s, offset } => plain_fields(8, d, s, offset),
+                operand: Operand::Register(s),
+            } => Fields {
+                form: 0,
+                operation: u32::from(operation),
+                d,
+                s,
+                ..zeros
+            },
+            Instruction::Arithmetic {
+                operation,
+                d,
+                operand: Operand::Literal(n),
+            } => Fields {
+                form: 1,
+                operation: u32::from(operation),
+                d,
+                value: n,
+                ..zeros
+            },
+            Instruction::MoveHigh { d } => Fields {
+                form: 2,
+                d,
+                ..zeros
+            },
+            Instruction::SetStatus { status } => Fields {
+                form: 3,
+                value: status,
+                ..zeros
+            },
+            Instruction::Jump { s } => Fields {
+                form: 4,
+                s,
+                ..zeros
+            },
+            Instruction::JumpAndLink { d, s } => Fields {
+                form: 5,
+                d,
+                s,
+                ..zeros
+            },
+            Instruction::ReturnFromInterrupt { s } => Fields {
+                form: 6,
+                s,
+                ..zeros
+            },
+            Instruction::Load { d, s, offset } => Fields {
+                form: 7,
+                d,
+                s,
+                value: offset,
+                ..zeros
+            },
+            Instruction::Store { d, s, offset } => Fields {
+                form: 8,
+                d,
+                s,
+                value: offset,
+                ..zeros
+            },
             Instruction::Branch { condition, offset } => Fields {
                 form: 9,
-                operation: 0,
                 condition,
-                d: 0,
-                s: 0,
                 value: offset,
+                ..zeros
             },
-            Instruction::Call { offset } => plain_fields(10, 0, 0, offset),
+            Instruction::Call { offset } => Fields {
+                form: 10,
+                value: offset,
+                ..zeros
+            },
         }
     }
 }
