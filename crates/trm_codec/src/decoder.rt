@@ -8,6 +8,9 @@ ghost use Rattle.trm_codec.specs.Promises.{Decodes};
 
 use crate::instruction::{Instruction, Operand, Operation};
 
+// The largest word of 18 bits.
+const LARGEST: u32 = 0x3FFFF;
+
 // Whether a word is MOV from H: operation 0 with bits 10 and 3 both set.
 fn moves_high(word: u32) -> bool
     ensures { result ≡ moves_high word }
@@ -95,7 +98,7 @@ fn instruction(word: u32) -> Instruction
 pub fn decode(word: u32) -> Option<Instruction>
     ensures { Decodes word result }
 {
-    if 0x3FFFF < word {
+    if LARGEST < word {
         None
     } else {
         Some(instruction(word))

@@ -4,6 +4,6 @@ use Rattle.trm_codec.specs.Decode.{decode_of}
 use Rattle.trm_codec.proofs.Laws.Numbers.{decodes}
 use Rattle.trm_codec.proofs.decoder.decode.Goals as goal
 
-pub returns-else-word-gt262143 : goal.returns-else-word-gt262143
+pub returns-else-word-gt-LARGEST : goal.returns-else-word-gt-LARGEST
 unfolding decode_of
-returns-else-word-gt262143 c = decodes _ _ (rw (le-ltb _ _ c.if-word-gt262143.false, c.instruction.ensures))
+returns-else-word-gt-LARGEST c = decodes _ _ (rw (le-ltb 0x3FFFF _ c.if-word-gt-LARGEST.false, c.instruction.ensures))
