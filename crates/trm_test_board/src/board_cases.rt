@@ -35,52 +35,43 @@ fn field(d: Devices, which: u32) -> u64 {
 }
 
 // The board's fields with one set; unchanged if there is none of this number.
-fn with_field(d: Devices, which: u32, value: u64) -> Devices {
-    let mut next = d;
+fn with_field(mut d: Devices, which: u32, value: u64) -> Devices {
     match which {
-        0 => next.serial.left = value,
-        1 => next.serial.sent = value,
-        2 => next.serial.passed = value,
-        3 => next.serial.bits = value,
-        4 => next.serial.byte = value,
-        5 => next.serial.ready = value,
-        6 => next.tick = value,
-        7 => next.lamps = value,
+        0 => d.serial.left = value,
+        1 => d.serial.sent = value,
+        2 => d.serial.passed = value,
+        3 => d.serial.bits = value,
+        4 => d.serial.byte = value,
+        5 => d.serial.ready = value,
+        6 => d.tick = value,
+        7 => d.lamps = value,
         _ => {}
     }
-    next
+    d
 }
 
 // The digest of all fields, in the order of their numbers.
 fn digest_of(d: Devices) -> u64 {
-    let mut n: u64 = 0;
-    let mut which: u32 = 0;
-    while which < 8 {
-        n = digest::mixed(n, field(d, which));
-        which += 1;
-    }
-    n
+    (0..8).fold(0, |n, which| digest::mixed(n, field(d, which)))
 }
 
 // The cases f and v.
 fn on_devices(rt: &impl Print, c: Case, d: Devices) -> io::Result<Devices> {
-    let kind = c.kind;
-    match kind {
-        b'f' => return Ok(with_field(d, c.w0, script::value_of(c))),
-        b'v' => print::hex(rt, field(d, c.w0), 1)?,
-        _ => {}
+    match c.kind {
+        b'f' => Ok(with_field(d, c.w0, script::value_of(c))),
+        b'v' => {
+            print::hex(rt, field(d, c.w0), 1)?;
+            Ok(d)
+        }
+        _ => Ok(d),
     }
-    Ok(d)
 }
 
 // The cases on fields: those of the core's record, then those of the board.
 pub fn on_fields(rt: &impl Print, c: Case, b: Board) -> io::Result<Board> {
     let machine = script::on_record(rt, c, b.machine)?;
     let devices = on_devices(rt, c, b.devices)?;
-    Ok(Board {
-        machine: machine,
-        devices: devices,
-    })
+    Ok(Board { machine, devices })
 }
 
 // Prints digests of the board's own fields, of the record and of the store.
@@ -118,9 +109,10 @@ fn clocked(c: Case, b: Board, program: &[u32], store: &mut [u32]) -> BoardClock 
     let given = (c.w0 % 256) as u8;
     let switches = (c.w1 % 256) as u8;
     if c.w2 == 0 {
-        return board_calls::clock(b, program, store, given, switches);
+        board_calls::clock(b, program, store, given, switches)
+    } else {
+        board_calls::clock_joined(b, program, store, given, switches)
     }
-    board_calls::clock_joined(b, program, store, given, switches)
 }
 
 // One clock: prints the number, the level, the answer byte and word, 1 if an instruction finished, and the digests.
@@ -157,9 +149,10 @@ fn ran(
     words: &mut [u32],
 ) -> BoardRun {
     if joined {
-        return board_calls::run_joined(b, program, store, given, switches, levels, bytes, words);
+        board_calls::run_joined(b, program, store, given, switches, levels, bytes, words)
+    } else {
+        board_calls::run(b, program, store, given, switches, levels, bytes, words)
     }
-    board_calls::run(b, program, store, given, switches, levels, bytes, words)
 }
 
 // A run, and then digests of its buffers.
@@ -179,9 +172,9 @@ fn run_shown(
         b, program, store, joined, given, switches, levels, bytes, words,
     );
     show_run(rt, r, store)?;
-    print::hex(rt, digest::of_bytes(levels), 8)?;
-    print::hex(rt, digest::of_bytes(bytes), 8)?;
-    print::hex(rt, digest::of_words(words), 8)?;
+    print::hex(rt, digest::of(levels), 8)?;
+    print::hex(rt, digest::of(bytes), 8)?;
+    print::hex(rt, digest::of(words), 8)?;
     Ok(r.board)
 }
 
@@ -212,9 +205,9 @@ fn run(
 ) -> io::Result<Board> {
     let given = lists::bytes_but_one(c.w2);
     let switches = lists::bytes_but_one(c.w3);
-    let mut levels = lists::bytes_of(0xA5);
-    let mut bytes = lists::bytes_of(0xA5);
-    let mut words = lists::words_of(0xA5A5A5A5);
+    let mut levels = lists::filled(0xA5);
+    let mut bytes = lists::filled(0xA5);
+    let mut words = lists::filled(0xA5A5A5A5);
     let n = lists::length_of(c.w0, 1);
     let h = lists::length_of(c.w0, c.w1 % 16);
     let i = lists::length_of(c.w0, c.w1 / 16 % 16);
@@ -245,10 +238,9 @@ fn core_clock(
     store: &mut [u32],
 ) -> io::Result<Board> {
     let machine = script::clock(rt, c, b.machine, program, store)?;
-    let devices = b.devices;
     Ok(Board {
-        machine: machine,
-        devices: devices,
+        machine,
+        devices: b.devices,
     })
 }
 
@@ -273,8 +265,7 @@ fn called(
     program: &[u32],
     store: &mut [u32],
 ) -> io::Result<Board> {
-    let kind = c.kind;
-    match kind {
+    match c.kind {
         b'K' => core_clock(rt, c, b, program, store),
         b'r' => reset(rt, b, store),
         b'k' => clock(rt, c, b, program, store),
