@@ -22,6 +22,7 @@ pub enum Operation {
 
 impl Operation {
     // The operation 0-10 of this number; ROR, the last, for a number above 10.
+    // Total, and no TryFrom: in the decoder, which gives it 0-10 only, no input would reach the error.
     pub fn from_number(number: u32) -> Operation
         ensures { result ≡ operation_at number }
     {

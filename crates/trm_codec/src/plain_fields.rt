@@ -8,6 +8,7 @@ use crate::instruction::{Instruction, Operand, Operation};
 
 // Forms: 0 an operation 0-10 on a register, 1 on a literal, 2 MOV from H, 3 a new status, 4 a jump, 5 a jump that links, 6 RTI, 7 LD,
 // 8 ST, 9 a branch, 10 a call. `value` is the literal, the status or the offset, with the bits of the word.
+// A number for the form and no enum: the C interface has this struct.
 #[repr(C)]
 #[derive(Clone, Copy, Default, PartialEq, Eq)]
 pub struct Fields {

@@ -19,33 +19,30 @@ pub fn start() -> Board {
     r.board
 }
 
-// A field of the board; 0 if there is none of this number.
-fn field(d: Devices, which: u32) -> u64 {
+// A field of the board.
+fn field_of(d: &mut Devices, which: u32) -> Option<&mut u64> {
     match which {
-        0 => d.serial.left,
-        1 => d.serial.sent,
-        2 => d.serial.passed,
-        3 => d.serial.bits,
-        4 => d.serial.byte,
-        5 => d.serial.ready,
-        6 => d.tick,
-        7 => d.lamps,
-        _ => 0,
+        0 => Some(&mut d.serial.left),
+        1 => Some(&mut d.serial.sent),
+        2 => Some(&mut d.serial.passed),
+        3 => Some(&mut d.serial.bits),
+        4 => Some(&mut d.serial.byte),
+        5 => Some(&mut d.serial.ready),
+        6 => Some(&mut d.tick),
+        7 => Some(&mut d.lamps),
+        _ => None,
     }
+}
+
+// Its value; 0 if there is none of this number.
+fn field(mut d: Devices, which: u32) -> u64 {
+    field_of(&mut d, which).map_or(0, |field| *field)
 }
 
 // The board's fields with one set; unchanged if there is none of this number.
 fn with_field(mut d: Devices, which: u32, value: u64) -> Devices {
-    match which {
-        0 => d.serial.left = value,
-        1 => d.serial.sent = value,
-        2 => d.serial.passed = value,
-        3 => d.serial.bits = value,
-        4 => d.serial.byte = value,
-        5 => d.serial.ready = value,
-        6 => d.tick = value,
-        7 => d.lamps = value,
-        _ => {}
+    if let Some(field) = field_of(&mut d, which) {
+        *field = value;
     }
     d
 }
@@ -136,7 +133,7 @@ fn show_run(rt: &impl Print, r: BoardRun, store: &[u32]) -> io::Result<()> {
     show_board(rt, r.board, store)
 }
 
-// A run, the line given or joined.
+// A run, the line given or joined. The five lists are parameters, as in the calls: the C interface has them one by one.
 fn ran(
     b: Board,
     program: &[u32],

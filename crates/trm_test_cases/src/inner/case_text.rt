@@ -12,6 +12,7 @@ pub struct Case {
     pub w3: u32,
 }
 
+// No `char::to_digit`, which would also read lower-case letters.
 fn digit(c: u8) -> u32
     ensures { result < 16 }
 {

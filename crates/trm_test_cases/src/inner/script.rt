@@ -12,6 +12,7 @@ use trm_run_machine::clock_answer::Clock;
 use trm_run_machine::machine::Machine;
 
 // How many words of the program and of the store are lent.
+// Program and store are no fields beside these: tried, and a function that lends a part of each through one `&mut` has no generated proof.
 #[derive(Clone, Copy, Default)]
 pub struct Lent {
     pub program: u32,

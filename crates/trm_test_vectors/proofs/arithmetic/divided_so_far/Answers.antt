@@ -9,4 +9,4 @@ pub loop-k-preserved : goal.loop-k-preserved
 loop-k-preserved c h =
     let l : c.loop-k._k ≤ 32 = omega arith in
     c.step-d.ensures ∙ ap (λ (d : Divider). div_step d.rem d.quot c.args.a) (c.loop-k.invariant l)
-        ∙ theorems.div_steps c.args.a c.args.b c.loop-k._k c.ranges.b.fits (omega arith)
+    ∙ theorems.div_steps c.args.a c.args.b c.loop-k._k c.ranges.b.fits (omega arith)
