@@ -11,8 +11,8 @@ from rattle import Unknown, partners_of, text_of, tokens_of
 # Every keyword of Rust that begins a form; only those known here may occur.
 RUST = set('''as async await break const continue crate dyn else enum extern fn for if impl in let loop macro_rules match mod move mut pub
     ref return self static struct super trait type union unsafe use where while yield'''.split())
-KNOWN = set('''as break const continue crate dyn else enum extern fn for if impl in let match mod move mut pub return self struct super trait
-    use where while'''.split())
+KNOWN = set('''as break const continue crate dyn else enum extern fn for if impl in let match mod move mut pub return self struct super
+    trait use where while'''.split())
 # Operators with a branch of their own, an operand that may not be evaluated.
 BRANCHING = {'&&', '||'}
 # Macros that take the handle of the program, as `println!(rt; "..")`; the stand-in of std has them, too.
