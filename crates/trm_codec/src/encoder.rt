@@ -5,13 +5,13 @@ ghost use Rattle.std.specs.Prelude.{◌≡◌, ltb, ◌+◌, ◌^◌, ◌<◌};
 ghost use Rattle.trm_codec.specs.Encode.{encoded_as, operand_fits, operand_placed, memory_encoded};
 ghost use Rattle.trm_codec.specs.Promises.{Encodes};
 
-use crate::instruction::{Instruction, Operand, Operation};
+use crate::instruction::{Instruction, Operand};
 
 // A field, if it fits its width; `limit` is the first value that does not.
 fn within(field: u32, limit: u32) -> Option<u32>
     ensures { result ≡ encoded_as (ltb field limit) field }
 {
-    if field < limit { Some(field) } else { None }
+    (field < limit).then_some(field)
 }
 
 // The operand A of an operation 0-10; bit 10 is set for a register.
