@@ -1,7 +1,9 @@
-# Inserts a counter at every function, at both outcomes of every condition and at every arm of a match, and translates the text to Rust.
+# Inserts a counter at every function, at both outcomes of every condition, at every arm of a match and in the body of every `for`, and
+# translates the text to Rust.
 # Called: imported by tests/reach/workspace.py; it does nothing when run.
 # Reads: nothing; it gets a file's text. It stops at a form that it does not know, with the file and the line number.
-# A `?` has no counter: what it passes on is a failed read or write, and the code that it skips has counters of its own.
+# A `?` has no counter: what it passes on has one where it is made, or is a failed read or write, and the code that it skips has counters of
+# its own. Nor has a closure: its conditions have theirs.
 from dataclasses import dataclass
 
 from rattle import Unknown, partners_of, text_of, tokens_of
@@ -9,8 +11,9 @@ from rattle import Unknown, partners_of, text_of, tokens_of
 # Every keyword of Rust that begins a form; only those known here may occur.
 RUST = set('''as async await break const continue crate dyn else enum extern fn for if impl in let loop macro_rules match mod move mut pub
     ref return self static struct super trait type union unsafe use where while yield'''.split())
-KNOWN = set('as break const continue crate else enum extern fn if impl let match mod mut pub return self struct super use while'.split())
-# Operators with a branch of their own, an operand that may not be evaluated: known only between the parts of a condition.
+KNOWN = set('''as break const continue crate dyn else enum extern fn for if impl in let match mod move mut pub return self struct super
+    trait use where while'''.split())
+# Operators with a branch of their own, an operand that may not be evaluated.
 BRANCHING = {'&&', '||'}
 # Macros that take the handle of the program, as `println!(rt; "..")`; the stand-in of std has them, too.
 PRINTING = {'print', 'println', 'eprint', 'eprintln'}
@@ -41,7 +44,8 @@ class Planter:
         self.places, self.names = [], {}
         self.bodies = []  # (name, index of `{`, index of `}`) of each function
         self.before_else = set()  # where an `else` may follow
-        self.known = set()  # operators and guards that have their counters
+        self.openings = {end: begin for begin, end in self.partners.items()}
+        self.known = set()  # operators, guards, `let` of an `if let` and `for` of an impl that need no more counters
 
     def stop(self, at, what):
         raise Unknown(f'crates/{self.path}', self.tokens[at].line, what)
@@ -72,7 +76,15 @@ class Planter:
             at = self.partners.get(at, at) + 1
         return at
 
+    def has_body(self, at):
+        """Whether a function has a body; a trait's may have none."""
+        while not self.is_mark(at, '{', ';'):
+            at = self.partners.get(at, at) + 1
+        return self.is_mark(at, '{')
+
     def plant_function(self, at):
+        if not self.has_body(at):
+            return
         name = self.tokens[at + 1].text
         body = self.next_open(at)
         self.bodies.append((name, body, self.partners[body]))
@@ -98,27 +110,88 @@ class Planter:
         """A counter for each of the two outcomes of a condition."""
         yes, no = (self.new_place(begin, f'{text}, {way}') for way in ('true', 'false'))
         self.before[begin] += ' reach::either('
-        self.before[end] += f', {yes}, {no})'
+        self.before[end] = f', {yes}, {no})' + self.before[end]
 
     def plant_condition(self, at):
         """if and while: counters for each part of the condition between `&&` and `||`."""
         if at in self.known:
             return
-        body = self.next_open(at + 1)
         if self.is_mark(at + 1, 'let'):
-            self.stop(at, f'`{self.tokens[at].text} let`')
-        begin = here = at + 1
-        while here <= body:
-            if here == body or self.is_mark(here, *BRANCHING):
-                self.plant_outcomes(begin, here, f'{self.tokens[at].text} {text_of(self.tokens[begin:here])}')
-                self.known.add(here)
-                begin = here + 1
-            here = self.partners.get(here, here) + 1
+            self.plant_pattern(at)
+            return
+        body = self.next_open(at + 1)
+        self.plant_parts(at + 1, body, f'{self.tokens[at].text} ')
         if self.is_mark(at, 'if'):
             self.before_else.add(self.partners[body])
 
+    def plant_parts(self, begin, end, word=''):
+        """Counters for each part of a condition between `&&` and `||`."""
+        here = begin
+        while here <= end:
+            if here == end or self.is_mark(here, *BRANCHING):
+                self.plant_outcomes(begin, here, f'{word}{text_of(self.tokens[begin:here])}')
+                self.known.add(here)
+                begin = here + 1
+            here = self.partners.get(here, here) + 1
+
+    def plant_pattern(self, at):
+        """if let and while let: a counter where the pattern fits, and for `if` one where it does not."""
+        self.known.add(at + 1)
+        equals = at + 2
+        while not self.is_mark(equals, '='):
+            equals = self.partners.get(equals, equals) + 1
+        body = self.next_open(equals)
+        after = self.partners[body] + 1
+        text = f'{self.tokens[at].text} {text_of(self.tokens[at + 1:body])}'
+        self.before[body + 1] += f' reach::hit({self.new_place(at, f"{text}, fits")});'
+        if self.is_mark(at, 'while'):
+            return
+        other = f' reach::hit({self.new_place(at, f"{text}, else")});'
+        if not self.is_mark(after, 'else'):
+            self.before[after] = f' else {{{other} }}' + self.before[after]
+        elif self.is_mark(after + 1, '{'):
+            self.before[after + 2] += other
+            self.before_else.add(after - 1)
+        else:
+            self.stop(after, 'an `else if` of an `if let`')
+
+    def plant_for(self, at):
+        """A counter in the body of a loop."""
+        if at in self.known:
+            return
+        body = self.next_open(at + 1)
+        self.before[body + 1] += f' reach::hit({self.new_place(at, f"for {text_of(self.tokens[at + 1:body])}, body")});'
+
+    def skip_header(self, at):
+        """The `for` between `impl` and its `{` is no loop."""
+        if at == 0 or self.is_mark(at - 1, '}', '{', ';', ']'):
+            self.known.update(i for i in range(at, self.next_open(at)) if self.is_mark(i, 'for'))
+
+    def begin_of(self, at):
+        """The index where the expression begins that has the operator at this index."""
+        while at > 0 and not self.is_mark(at - 1, '(', '{', '[', ';', ',', '=', '=>', '|', 'return'):
+            if self.is_mark(at - 1, '}') and not self.is_mark(at, '.', '?', '==', '!=', *BRANCHING):
+                break
+            at = self.openings.get(at - 1, at - 1)
+        return at
+
+    def end_of(self, at):
+        """The index where it ends."""
+        while not self.is_mark(at, ')', '}', ']', ';', ','):
+            at = self.partners.get(at, at) + 1
+        return at
+
+    def plant_operator(self, at):
+        """Counters for each part of an expression with `&&` or `||` that is no condition of an `if`; `||` may be a closure's."""
+        if self.is_mark(at, '||') and self.is_mark(at - 1, '(', ',', '=', 'move'):
+            self.known.add(at)
+            return
+        self.plant_parts(self.begin_of(at), self.end_of(at))
+
     def plant_let(self, at):
         """let .. else: a counter where the pattern fits, and one where it does not."""
+        if at in self.known:
+            return
         end = at + 1
         while not self.is_mark(end, ';') and not (self.is_mark(end, 'else') and not self.is_mark(end - 1, '}')):
             end = self.partners.get(end, end) + 1
@@ -223,11 +296,12 @@ class Planter:
     def plant(self):
         """Inserts all counters; returns the text as Rust."""
         forms = {'fn': self.plant_function, 'if': self.plant_condition, 'while': self.plant_condition, 'match': self.plant_match,
-                 'let': self.plant_let, 'derive': self.drop_drop, 'unsafe': self.drop_export}
+                 'let': self.plant_let, 'for': self.plant_for, 'impl': self.skip_header, 'derive': self.drop_drop,
+                 'unsafe': self.drop_export}
         self.before[0] += 'use reach::prelude::*;'
         for at, token in enumerate(self.tokens):
             if token.kind == 'mark' and token.text in BRANCHING and at not in self.known:
-                self.stop(at, f'`{token.text}` has a way of its own; no counter is planted for it here')
+                self.plant_operator(at)
             if token.kind == 'name':
                 self.check_name(at)
                 forms.get(token.text, lambda _: None)(at)

@@ -11,6 +11,8 @@ TOKEN = re.compile(r'''(?P<gap>\s+|//[^\n]*)
     |(?P<mark>=>|->|::|\.\.=|\.\.|==|!=|<=|>=|<<|>>|[-+*/%]=|&&|\|\||[-+*/%&|^!<>=(){}\[\],;:.\#?])''', re.X | re.A)
 CONTRACT = re.compile(r'(?:requires|ensures)\*?\s*(?:\w+\s*)?\{')
 GHOST_USE = re.compile(r'ghost\s+use\s[^;]*;')
+GHOST_MEMBER = re.compile(r'ghost\s+\w+\s*[:=]\s*\{')
+GHOST_LAST = re.compile(r'\s*[;,]')
 PROVING = re.compile(r'#!?\[\s*(?:tactic|cycle)\b')
 PAIRS = {'(': ')', '[': ']', '{': '}'}
 
@@ -41,7 +43,11 @@ def closing_end(path, text, at, opening='{'):
 
 
 def ghost_end(path, text, at, name):
-    """The index after a contract or a `ghost use` that begins here."""
+    """The index after a contract, a `ghost use` or a ghost member that begins here."""
+    if name == 'ghost' and (member := GHOST_MEMBER.match(text, at)):
+        end = closing_end(path, text, member.end())
+        last = GHOST_LAST.match(text, end)
+        return last.end() if last else end
     pattern = GHOST_USE if name == 'ghost' else CONTRACT
     found = pattern.match(text, at)
     if not found:

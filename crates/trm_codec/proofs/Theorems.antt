@@ -1,6 +1,6 @@
 -- Proves every field of `Claims`.
 -- The inverses and the refusals are laws; the table of words computes.
-use mathlib.Core.Path.{refl}
+use Rattle.std.proofs.Common.{rules}
 use Rattle.trm_codec.specs.Decode.{arithmetic_of, control_of, instruction_of, decode_of}
 use Rattle.trm_codec.specs.Encode.{encode_of}
 use Rattle.trm_codec.specs.Worked.{RowsHold}
@@ -12,61 +12,7 @@ use Rattle.trm_codec.proofs.Laws.Plain.{plain_decode, plain_encode}
 
 words_hold : WordsHold
 unfolding RowsHold decode_of instruction_of arithmetic_of control_of encode_of
-words_hold = (
-  (refl, refl),
-  (
-    (refl, refl),
-    (
-      (refl, refl),
-      (
-        (refl, refl),
-        (
-          (refl, refl),
-          (
-            (refl, refl),
-            (
-              (refl, refl),
-              (
-                (refl, refl),
-                (
-                  (refl, refl),
-                  (
-                    (refl, refl),
-                    (
-                      (refl, refl),
-                      (
-                        (refl, refl),
-                        (
-                          (refl, refl),
-                          (
-                            (refl, refl),
-                            (
-                              (refl, refl),
-                              (
-                                (refl, refl),
-                                (
-                                  (refl, refl),
-                                  (
-                                    (refl, refl),
-                                    ((refl, refl), ((refl, refl), ((refl, refl), tt))),
-                                  ),
-                                ),
-                              ),
-                            ),
-                          ),
-                        ),
-                      ),
-                    ),
-                  ),
-                ),
-              ),
-            ),
-          ),
-        ),
-      ),
-    ),
-  ),
-)
+words_hold = search rules
 
 pub theorems : Claims
 theorems =

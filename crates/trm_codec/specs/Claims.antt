@@ -1,9 +1,7 @@
 -- Claims about decode and encode beyond their contracts: one statement per field.
 -- Paper: "Unused bits encode as zero"; rows 3 and 10. README, demand 2: decode and encode are inverse. Proved in proofs/Theorems.antt.
-use Rattle.std.specs.Prelude.{ℕ, ◌^◌, ◌<◌, ◌≡◌}
+use Rattle.std.specs.Prelude.{ℕ, ◌^◌, ◌<◌, ◌≡◌, Some}
 use Rattle.trm_codec.specs.declared.instruction.Instruction.{Instruction}
-use Rattle.trm_codec.specs.declared.instruction.Decoded.TheVariants as D
-use Rattle.trm_codec.specs.declared.instruction.Encoded.TheVariants as E
 use Rattle.trm_codec.specs.Decode.{decode_of}
 use Rattle.trm_codec.specs.Encode.{encode_of}
 use Rattle.trm_codec.specs.Unused.{unused_zero}
@@ -15,8 +13,8 @@ use Rattle.trm_codec.specs.Worked.{rows, RowsHold}
 -- the instruction that w decodes to encodes as w with its unused bits zero
 pub record Recodes (w : ℕ) : Type 0 where
   pub instruction : Instruction
-  pub decoded : decode_of w ≡ D.Instruction instruction
-  pub encoded : encode_of instruction ≡ E.Word (unused_zero w)
+  pub decoded : decode_of w ≡ Some instruction
+  pub encoded : encode_of instruction ≡ Some (unused_zero w)
 
 -- Every word below 2^18, decoded and encoded, is itself with its unused bits zero.
 abbrev pub DecodeEncode : Type 0
@@ -24,7 +22,7 @@ DecodeEncode = (w : ℕ) → w < 2 ^ 18 → Recodes w
 
 -- Every instruction that encodes decodes to itself.
 abbrev pub EncodeDecode : Type 0
-EncodeDecode = (i : Instruction) (w : ℕ) → encode_of i ≡ E.Word w → decode_of w ≡ D.Instruction i
+EncodeDecode = (i : Instruction) (w : ℕ) → encode_of i ≡ Some w → decode_of w ≡ Some i
 
 -- Decode refuses with 3 exactly the words above 3FFFFH.
 abbrev pub DecodeRefuses : Type 0

@@ -1,14 +1,12 @@
 -- Decode: the instruction that a word encodes, or the refusal 3.
 -- Paper: "What a programmer sees", the format of each operation; row 3, "one above 3FFFFH, a lone word to decode included".
---   decode_of w   the answer       instruction_of w   the instruction of a word below 2^18
-use Rattle.std.specs.Prelude.{ℕ, ◌-◌, cond, List, [], ◌∷◌, ltb, eqb, get_or}
+--   decode_of w   the answer, `None` if refused       instruction_of w   the instruction of a word below 2^18
+use Rattle.std.specs.Prelude.{ℕ, ◌-◌, cond, List, [], ◌∷◌, Option, Some, None, ltb, eqb, get_or}
 use Rattle.trm_codec.specs.declared.instruction.Operand.{Operand}
 use Rattle.trm_codec.specs.declared.instruction.Operand.TheVariants.{Register, Literal}
 use Rattle.trm_codec.specs.declared.instruction.Instruction.{Instruction}
 use Rattle.trm_codec.specs.declared.instruction.Instruction.TheVariants.{Arithmetic, MoveHigh, SetStatus, Jump, JumpAndLink}
 use Rattle.trm_codec.specs.declared.instruction.Instruction.TheVariants.{ReturnFromInterrupt, Load, Store, Branch, Call}
-use Rattle.trm_codec.specs.declared.instruction.Decoded.{Decoded}
-use Rattle.trm_codec.specs.declared.instruction.Decoded.TheVariants as D
 use Rattle.trm_word.specs.Fields.{bit, moves_high, operation, destination, source, literal}
 use Rattle.trm_word.specs.Fields.{new_status, jump_form, memory_offset, condition, branch_offset, call_offset}
 use Rattle.trm_codec.specs.Operations.{operation_at}
@@ -47,5 +45,5 @@ unfoldable pub instruction_of : ℕ → Instruction
 instruction_of w =
     cond (ltb (operation w) 11) (arithmetic_of w) (get_or (other_forms w) (operation w - 11) (Call (call_offset w)))
 
-unfoldable pub decode_of : ℕ → Decoded
-decode_of w = cond (ltb 0x3FFFF w) D.Refused (D.Instruction (instruction_of w))
+unfoldable pub decode_of : ℕ → Option Instruction
+decode_of w = cond (ltb 0x3FFFF w) None (Some (instruction_of w))

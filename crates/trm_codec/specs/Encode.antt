@@ -1,14 +1,12 @@
 -- Encode: the word of an instruction, its unused bits zero, or the refusal 10.
 -- Paper: "What a programmer sees", the format of each operation; "Unused bits encode as zero; RTI encodes as 01"; row 10.
---   encode_of i   the answer       fits i   every field fits its width       placed i   the fields at their bits
-use Rattle.std.specs.Prelude.{ℕ, ◌+◌, ◌*◌, ◌^◌, Bool, cond, ◌&&◌, ltb}
+--   encode_of i   the answer, `None` if refused       fits i   every field fits its width       placed i   the fields at their bits
+use Rattle.std.specs.Prelude.{ℕ, ◌+◌, ◌*◌, ◌^◌, Bool, cond, ◌&&◌, Option, Some, None, ltb}
 use Rattle.trm_codec.specs.declared.instruction.Operand.{Operand}
 use Rattle.trm_codec.specs.declared.instruction.Operand.TheVariants.{Register, Literal}
 use Rattle.trm_codec.specs.declared.instruction.Instruction.{Instruction}
 use Rattle.trm_codec.specs.declared.instruction.Instruction.TheVariants.{Arithmetic, MoveHigh, SetStatus, Jump, JumpAndLink}
 use Rattle.trm_codec.specs.declared.instruction.Instruction.TheVariants.{ReturnFromInterrupt, Load, Store, Branch, Call}
-use Rattle.trm_codec.specs.declared.instruction.Encoded.{Encoded}
-use Rattle.trm_codec.specs.declared.instruction.Encoded.TheVariants as E
 use Rattle.trm_codec.specs.Operations.{number_of}
 
 -- "a field outside its width": d and s have 3 bits, a literal 10, the status 4, the offset of LD and ST 8,
@@ -53,12 +51,12 @@ placed (Store d s offset) = memory_placed 13 d s offset
 placed (Branch condition offset) = 14 * 2 ^ 14 + condition * 2 ^ 10 + offset
 placed (Call offset) = 15 * 2 ^ 14 + offset
 
-abbrev pub encoded_as : Bool → ℕ → Encoded
-encoded_as ok w = cond ok (E.Word w) E.Refused
+abbrev pub encoded_as : Bool → ℕ → Option ℕ
+encoded_as ok w = cond ok (Some w) None
 
-unfoldable pub encode_of : Instruction → Encoded
+unfoldable pub encode_of : Instruction → Option ℕ
 encode_of i = encoded_as (fits i) (placed i)
 
 -- LD and ST; op is 12 or 13
-abbrev pub memory_encoded : ℕ → ℕ → ℕ → ℕ → Encoded
+abbrev pub memory_encoded : ℕ → ℕ → ℕ → ℕ → Option ℕ
 memory_encoded op d s offset = encoded_as (memory_fits d s offset) (memory_placed op d s offset)

@@ -1,14 +1,12 @@
 -- Words encoded by hand from the paper's formats, one for each operation and form.
 -- Paper: the example image (00005H, 20003H, 3BBFFH), 3BC00H "branch never".
 --   rows   a word and its instruction       RowsHold rs   each word decodes to its instruction, which encodes to it
-use Rattle.std.specs.Prelude.{ℕ, ◌≡◌, List, [], ◌∷◌}
+use Rattle.std.specs.Prelude.{ℕ, ◌≡◌, List, [], ◌∷◌, Some}
 use Rattle.trm_codec.specs.declared.instruction.Operation.TheVariants as O
 use Rattle.trm_codec.specs.declared.instruction.Operand.TheVariants.{Register, Literal}
 use Rattle.trm_codec.specs.declared.instruction.Instruction.{Instruction}
 use Rattle.trm_codec.specs.declared.instruction.Instruction.TheVariants.{Arithmetic, MoveHigh, SetStatus, Jump, JumpAndLink}
 use Rattle.trm_codec.specs.declared.instruction.Instruction.TheVariants.{ReturnFromInterrupt, Load, Store, Branch, Call}
-use Rattle.trm_codec.specs.declared.instruction.Decoded.TheVariants as D
-use Rattle.trm_codec.specs.declared.instruction.Encoded.TheVariants as E
 use Rattle.trm_codec.specs.Decode.{decode_of}
 use Rattle.trm_codec.specs.Encode.{encode_of}
 
@@ -51,4 +49,4 @@ rows =
 unfoldable pub RowsHold : List Row → Type 0
 RowsHold [] = Unit {0}
 RowsHold (r ∷ rs) =
-    ((decode_of r.word ≡ D.Instruction r.instruction) × (encode_of r.instruction ≡ E.Word r.word)) × RowsHold rs
+    ((decode_of r.word ≡ Some r.instruction) × (encode_of r.instruction ≡ Some r.word)) × RowsHold rs

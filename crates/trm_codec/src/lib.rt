@@ -5,7 +5,6 @@
 
 pub mod decoder;
 pub mod encoder;
-pub mod inner;
 pub mod instruction;
 pub mod plain_codec;
 pub mod plain_fields;

@@ -19,68 +19,56 @@ pub fn start() -> Board {
     r.board
 }
 
-// A field of the board; 0 if there is none of this number.
-fn field(d: Devices, which: u32) -> u64 {
+// A field of the board.
+fn field_of(d: &mut Devices, which: u32) -> Option<&mut u64> {
     match which {
-        0 => d.serial.left,
-        1 => d.serial.sent,
-        2 => d.serial.passed,
-        3 => d.serial.bits,
-        4 => d.serial.byte,
-        5 => d.serial.ready,
-        6 => d.tick,
-        7 => d.lamps,
-        _ => 0,
+        0 => Some(&mut d.serial.left),
+        1 => Some(&mut d.serial.sent),
+        2 => Some(&mut d.serial.passed),
+        3 => Some(&mut d.serial.bits),
+        4 => Some(&mut d.serial.byte),
+        5 => Some(&mut d.serial.ready),
+        6 => Some(&mut d.tick),
+        7 => Some(&mut d.lamps),
+        _ => None,
     }
 }
 
+// Its value; 0 if there is none of this number.
+fn field(mut d: Devices, which: u32) -> u64 {
+    field_of(&mut d, which).map_or(0, |field| *field)
+}
+
 // The board's fields with one set; unchanged if there is none of this number.
-fn with_field(d: Devices, which: u32, value: u64) -> Devices {
-    let mut next = d;
-    match which {
-        0 => next.serial.left = value,
-        1 => next.serial.sent = value,
-        2 => next.serial.passed = value,
-        3 => next.serial.bits = value,
-        4 => next.serial.byte = value,
-        5 => next.serial.ready = value,
-        6 => next.tick = value,
-        7 => next.lamps = value,
-        _ => {}
+fn with_field(mut d: Devices, which: u32, value: u64) -> Devices {
+    if let Some(field) = field_of(&mut d, which) {
+        *field = value;
     }
-    next
+    d
 }
 
 // The digest of all fields, in the order of their numbers.
 fn digest_of(d: Devices) -> u64 {
-    let mut n: u64 = 0;
-    let mut which: u32 = 0;
-    while which < 8 {
-        n = digest::mixed(n, field(d, which));
-        which += 1;
-    }
-    n
+    (0..8).fold(0, |n, which| digest::mixed(n, field(d, which)))
 }
 
 // The cases f and v.
 fn on_devices(rt: &impl Print, c: Case, d: Devices) -> io::Result<Devices> {
-    let kind = c.kind;
-    match kind {
-        b'f' => return Ok(with_field(d, c.w0, script::value_of(c))),
-        b'v' => print::hex(rt, field(d, c.w0), 1)?,
-        _ => {}
+    match c.kind {
+        b'f' => Ok(with_field(d, c.w0, script::value_of(c))),
+        b'v' => {
+            print::hex(rt, field(d, c.w0), 1)?;
+            Ok(d)
+        }
+        _ => Ok(d),
     }
-    Ok(d)
 }
 
 // The cases on fields: those of the core's record, then those of the board.
 pub fn on_fields(rt: &impl Print, c: Case, b: Board) -> io::Result<Board> {
     let machine = script::on_record(rt, c, b.machine)?;
     let devices = on_devices(rt, c, b.devices)?;
-    Ok(Board {
-        machine: machine,
-        devices: devices,
-    })
+    Ok(Board { machine, devices })
 }
 
 // Prints digests of the board's own fields, of the record and of the store.
@@ -118,9 +106,10 @@ fn clocked(c: Case, b: Board, program: &[u32], store: &mut [u32]) -> BoardClock 
     let given = (c.w0 % 256) as u8;
     let switches = (c.w1 % 256) as u8;
     if c.w2 == 0 {
-        return board_calls::clock(b, program, store, given, switches);
+        board_calls::clock(b, program, store, given, switches)
+    } else {
+        board_calls::clock_joined(b, program, store, given, switches)
     }
-    board_calls::clock_joined(b, program, store, given, switches)
 }
 
 // One clock: prints the number, the level, the answer byte and word, 1 if an instruction finished, and the digests.
@@ -144,7 +133,7 @@ fn show_run(rt: &impl Print, r: BoardRun, store: &[u32]) -> io::Result<()> {
     show_board(rt, r.board, store)
 }
 
-// A run, the line given or joined.
+// A run, the line given or joined. The five lists are parameters, as in the calls: the C interface has them one by one.
 fn ran(
     b: Board,
     program: &[u32],
@@ -157,9 +146,10 @@ fn ran(
     words: &mut [u32],
 ) -> BoardRun {
     if joined {
-        return board_calls::run_joined(b, program, store, given, switches, levels, bytes, words);
+        board_calls::run_joined(b, program, store, given, switches, levels, bytes, words)
+    } else {
+        board_calls::run(b, program, store, given, switches, levels, bytes, words)
     }
-    board_calls::run(b, program, store, given, switches, levels, bytes, words)
 }
 
 // A run, and then digests of its buffers.
@@ -179,9 +169,9 @@ fn run_shown(
         b, program, store, joined, given, switches, levels, bytes, words,
     );
     show_run(rt, r, store)?;
-    print::hex(rt, digest::of_bytes(levels), 8)?;
-    print::hex(rt, digest::of_bytes(bytes), 8)?;
-    print::hex(rt, digest::of_words(words), 8)?;
+    print::hex(rt, digest::of(levels), 8)?;
+    print::hex(rt, digest::of(bytes), 8)?;
+    print::hex(rt, digest::of(words), 8)?;
     Ok(r.board)
 }
 
@@ -212,9 +202,9 @@ fn run(
 ) -> io::Result<Board> {
     let given = lists::bytes_but_one(c.w2);
     let switches = lists::bytes_but_one(c.w3);
-    let mut levels = lists::bytes_of(0xA5);
-    let mut bytes = lists::bytes_of(0xA5);
-    let mut words = lists::words_of(0xA5A5A5A5);
+    let mut levels = lists::filled(0xA5);
+    let mut bytes = lists::filled(0xA5);
+    let mut words = lists::filled(0xA5A5A5A5);
     let n = lists::length_of(c.w0, 1);
     let h = lists::length_of(c.w0, c.w1 % 16);
     let i = lists::length_of(c.w0, c.w1 / 16 % 16);
@@ -245,10 +235,9 @@ fn core_clock(
     store: &mut [u32],
 ) -> io::Result<Board> {
     let machine = script::clock(rt, c, b.machine, program, store)?;
-    let devices = b.devices;
     Ok(Board {
-        machine: machine,
-        devices: devices,
+        machine,
+        devices: b.devices,
     })
 }
 
@@ -273,8 +262,7 @@ fn called(
     program: &[u32],
     store: &mut [u32],
 ) -> io::Result<Board> {
-    let kind = c.kind;
-    match kind {
+    match c.kind {
         b'K' => core_clock(rt, c, b, program, store),
         b'r' => reset(rt, b, store),
         b'k' => clock(rt, c, b, program, store),

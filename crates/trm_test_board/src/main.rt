@@ -7,6 +7,7 @@ mod board_cases;
 
 use std::io;
 use std::io::Read;
+use trm_test_cases::inner::script::Lent;
 use trm_test_cases::inner::{case_input, script};
 
 fn main(rt: HostRuntime) -> io::Result<()> {
@@ -23,14 +24,11 @@ fn run_all(
     store: &mut [u32],
 ) -> io::Result<()> {
     let mut b = board_cases::start();
-    let mut lent = script::nothing_lent();
-    let mut left: usize = 1000000;
-    while 0 < left {
-        left -= 1;
-        let c = case_input::next_case(rt, input)?;
-        if c.kind == 0 {
+    let mut lent = Lent::default();
+    for _ in 0..1_000_000 {
+        let Some(c) = case_input::next_case(rt, input)? else {
             break;
-        }
+        };
         script::fill(c, program, store);
         lent = script::lent_after(c, lent);
         b = board_cases::on_fields(rt, c, b)?;

@@ -8,12 +8,10 @@ use std::rt::{Env, Files};
 use std::{fs, io, str};
 
 fn main(rt: HostRuntime) -> io::Result<()> {
-    let mut i: usize = 1;
-    while i < 1000 {
+    for i in 1..1000 {
         if !one(&rt, i)? {
             break;
         }
-        i += 1;
     }
     Ok(())
 }

@@ -1,8 +1,8 @@
 // Cases on arithmetic: an operation with its flags, and the registers of multiplier and divider after some steps.
 // Paper: operations 0-10; "After k multiplier steps .."; "the divider holds ..".
 // MUL and DIV are computed by their 32 steps, never by one multiplication or division.
-ghost use Rattle.std.specs.Prelude.{◌≡◌};
-ghost use Rattle.trm_alu.specs.Divide.{divided};
+ghost use Rattle.std.specs.Prelude.{◌≡◌, ◌≤◌};
+ghost use Rattle.trm_alu.specs.Divide.{divided, divider_at};
 
 use std::io;
 use trm_alu::inner::divide::{Divided, Divider};
@@ -11,22 +11,16 @@ use trm_test_cases::inner::print;
 
 // The multiplier's register after `steps` steps.
 fn multiplied(a: u32, b: u32, steps: u32) -> u64 {
-    let mut acc = a as u64;
-    let mut left = steps as usize;
-    while 0 < left {
-        acc = multiply::step(acc, b, steps as usize - left == 31);
-        left -= 1;
-    }
-    acc
+    (0..steps).fold(a as u64, |acc, k| multiply::step(acc, b, k == 31))
 }
 
 // The divider's registers after `steps` steps.
-fn divided_so_far(a: u32, b: u32, steps: u32) -> Divider {
+fn divided_so_far(a: u32, b: u32, steps: u32) -> Divider
+    ensures { steps ≤ 32 → result ≡ divider_at a b steps }
+{
     let mut d = Divider::start(a, b);
-    let mut left = steps as usize;
-    while 0 < left {
+    for _k in 0..steps {
         d = d.step(a);
-        left -= 1;
     }
     d
 }
@@ -35,12 +29,7 @@ fn divided_so_far(a: u32, b: u32, steps: u32) -> Divider {
 fn divide_whole(a: u32, b: u32) -> Divided
     ensures { result ≡ divided a b }
 {
-    let mut d = Divider::start(a, b);
-    let mut k: usize = 0;
-    while k < 32 {
-        d = d.step(a);
-        k += 1;
-    }
+    let d = divided_so_far(a, b, 32);
     d.finish(a, b)
 }
 
@@ -49,11 +38,7 @@ fn show(rt: &impl Print, number: u32, b: u32, a: u32, before: u32, res: u32) -> 
     let c = (before / 2 % 2) as u64;
     let v = (before % 2) as u64;
     let f = flags::flags_after(number as u64, a, b, res, c, v);
-    print::hex(rt, res as u64, 8)?;
-    print::decimal(rt, f.n)?;
-    print::decimal(rt, f.z)?;
-    print::decimal(rt, f.c)?;
-    print::decimal(rt, f.v)
+    print!(rt; " {res:08x} {} {} {} {}", f.n, f.z, f.c, f.v)
 }
 
 // Prints R.d, N, Z, C, V; for MUL and DIV also H.

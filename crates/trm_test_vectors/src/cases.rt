@@ -11,8 +11,7 @@ use trm_word::inner::address::Place;
 
 // Answers a case that does not belong to a script; prints nothing for any other letter.
 pub fn answer(rt: &impl Print, c: Case) -> io::Result<()> {
-    let kind = c.kind;
-    match kind {
+    match c.kind {
         b'A' => arithmetic::operation(rt, c.w0, c.w1, c.w2, c.w3),
         b'M' => arithmetic::multiplier(rt, c.w0, c.w1, c.w2),
         b'D' => arithmetic::divider(rt, c.w0, c.w1, c.w2),
@@ -37,11 +36,7 @@ fn condition(rt: &impl Print, k: u32, flags: u32) -> io::Result<()> {
         (flags / 2 % 2) as u64,
         (flags % 2) as u64,
     );
-    if holds {
-        print::text(rt, b"holds")
-    } else {
-        print::text(rt, b"fails")
-    }
+    print::text(rt, if holds { b"holds" } else { b"fails" })
 }
 
 fn effective_address(rt: &impl Print, s: u32, register: u32, offset: u32) -> io::Result<()> {
@@ -50,19 +45,12 @@ fn effective_address(rt: &impl Print, s: u32, register: u32, offset: u32) -> io:
 }
 
 fn place(rt: &impl Print, at: u32, length: u32) -> io::Result<()> {
-    if address::store_length_ok(length as u64) {
-        match address::place_of(at as u64, length as u64) {
-            Place::Device(n) => {
-                print::text(rt, b"device")?;
-                print::decimal(rt, n)
-            }
-            Place::Memory(n) => {
-                print::text(rt, b"memory")?;
-                print::decimal(rt, n)
-            }
-        }
-    } else {
-        print::text(rt, b"no length")
+    if !address::store_length_ok(length as u64) {
+        return print::text(rt, b"no length");
+    }
+    match address::place_of(at as u64, length as u64) {
+        Place::Device(n) => print!(rt; " device {n}"),
+        Place::Memory(n) => print!(rt; " memory {n}"),
     }
 }
 

@@ -40,8 +40,8 @@ fn show_run(rt: &impl Print, r: Run, store: &[u32]) -> io::Result<()> {
 
 // Prints digests of both answer buffers, and the watch over the answer bytes.
 fn show_buffers(rt: &impl Print, bytes: &[u8], words: &[u32], device: u32) -> io::Result<()> {
-    print::hex(rt, digest::of_bytes(bytes), 8)?;
-    print::hex(rt, digest::of_words(words), 8)?;
+    print::hex(rt, digest::of(bytes), 8)?;
+    print::hex(rt, digest::of(words), 8)?;
     show_watch(rt, bytes, device)
 }
 
@@ -76,9 +76,9 @@ fn run(
 ) -> io::Result<Machine> {
     let at = (c.w2 / 65536) as usize;
     let pins = lists::bytes_but_one(c.w2);
-    let inputs = lists::words_of(c.w3);
-    let mut bytes = lists::bytes_of(0xA5);
-    let mut words = lists::words_of(0xA5A5A5A5);
+    let inputs = lists::filled(c.w3);
+    let mut bytes = lists::filled(0xA5);
+    let mut words = lists::filled(0xA5A5A5A5);
     let n = lists::length_of(c.w0, 1);
     let i = lists::length_of(c.w0, c.w1 % 16);
     let j = lists::length_of(c.w0, c.w1 / 16 % 16);
@@ -122,7 +122,7 @@ fn show_copy(
 ) -> io::Result<()> {
     let refused = inspect::copy(m, program, store, buffer);
     print::decimal(rt, script::number(refused))?;
-    print::hex(rt, digest::of_words(buffer), 8)
+    print::hex(rt, digest::of(buffer), 8)
 }
 
 // A copy into a buffer of `length` words, at most 65,537; then prints word `at` of the buffer.
@@ -134,7 +134,7 @@ fn copy(
     length: u32,
     at: u32,
 ) -> io::Result<()> {
-    let mut buffer = lists::words_of(0xA5A5A5A5);
+    let mut buffer = lists::filled(0xA5A5A5A5);
     let n = length as usize % 65538;
     let i = at as usize % 65537;
     show_copy(rt, m, program, store, &mut buffer[..n])?;
@@ -181,8 +181,7 @@ fn called(
     program: &[u32],
     store: &mut [u32],
 ) -> io::Result<Machine> {
-    let kind = c.kind;
-    match kind {
+    match c.kind {
         b'R' => return reset(rt, m, store),
         b'K' => return script::clock(rt, c, m, program, store),
         b'Z' => return run(rt, c, m, program, store),

@@ -2,8 +2,8 @@
 // Paper: the formats; "Unused bits encode as zero"; rows 3 and 10 of the refusals.
 // Forms: 0 register, 1 literal, 2 MOV H, 3 status, 4 jump, 5 jump and link, 6 RTI, 7 LD, 8 ST, 9 branch, 10 call.
 use std::io;
-use trm_codec::instruction::{Decoded, Encoded, Instruction, Operand};
-use trm_codec::{decoder, encoder, inner};
+use trm_codec::instruction::{Instruction, Operand, Operation};
+use trm_codec::{decoder, encoder};
 use trm_test_cases::inner::print;
 
 // Prints a form with its fields; those that it does not have are 0.
@@ -19,11 +19,13 @@ fn show_instruction(rt: &impl Print, i: Instruction) -> io::Result<()> {
         Instruction::Arithmetic {
             operation,
             d,
-            operand,
-        } => match operand {
-            Operand::Register(s) => show(rt, 0, inner::number_of(operation), d, s),
-            Operand::Literal(n) => show(rt, 1, inner::number_of(operation), d, n),
-        },
+            operand: Operand::Register(s),
+        } => show(rt, 0, u32::from(operation), d, s),
+        Instruction::Arithmetic {
+            operation,
+            d,
+            operand: Operand::Literal(n),
+        } => show(rt, 1, u32::from(operation), d, n),
         Instruction::MoveHigh { d } => show(rt, 2, d, 0, 0),
         Instruction::SetStatus { status } => show(rt, 3, status, 0, 0),
         Instruction::Jump { s } => show(rt, 4, s, 0, 0),
@@ -38,31 +40,31 @@ fn show_instruction(rt: &impl Print, i: Instruction) -> io::Result<()> {
 
 fn show_encoded(rt: &impl Print, i: Instruction) -> io::Result<()> {
     match encoder::encode(i) {
-        Encoded::Word(w) => print::hex(rt, w as u64, 5),
-        Encoded::Refused => print::text(rt, b"refused 10"),
+        Some(w) => print::hex(rt, w as u64, 5),
+        None => print::text(rt, b"refused 10"),
     }
 }
 
 // Prints the form and the fields of a word, then the word that the instruction encodes to.
 pub fn decode(rt: &impl Print, w: u32) -> io::Result<()> {
     match decoder::decode(w) {
-        Decoded::Instruction(i) => {
+        Some(i) => {
             show_instruction(rt, i)?;
             show_encoded(rt, i)
         }
-        Decoded::Refused => print::text(rt, b"refused 3"),
+        None => print::text(rt, b"refused 3"),
     }
 }
 
 fn made(form: u32, x: u32, y: u32, z: u32) -> Instruction {
     match form {
         0 => Instruction::Arithmetic {
-            operation: inner::operation_at(x),
+            operation: Operation::from_number(x),
             d: y,
             operand: Operand::Register(z),
         },
         1 => Instruction::Arithmetic {
-            operation: inner::operation_at(x),
+            operation: Operation::from_number(x),
             d: y,
             operand: Operand::Literal(z),
         },
@@ -93,24 +95,13 @@ pub fn encode(rt: &impl Print, form: u32, x: u32, y: u32, z: u32) -> io::Result<
     show_encoded(rt, made(form, x, y, z))
 }
 
-// 1 if a word decodes to an instruction that encodes to the same word, else 0.
-fn canonical(w: u32) -> u64 {
-    match decoder::decode(w) {
-        Decoded::Instruction(i) => match encoder::encode(i) {
-            Encoded::Word(v) => if v == w { 1 } else { 0 },
-            Encoded::Refused => 0,
-        },
-        Decoded::Refused => 0,
-    }
+// Whether a word decodes to an instruction that encodes to the same word.
+fn canonical(w: u32) -> bool {
+    decoder::decode(w).and_then(encoder::encode) == Some(w)
 }
 
 // How many of the 2^18 words have no unused bit set: as many as there are instructions.
 pub fn count_canonical(rt: &impl Print) -> io::Result<()> {
-    let mut count: u64 = 0;
-    let mut w: usize = 0;
-    while w < 0x40000 {
-        count = std::num::wrapping_add_u64(count, canonical(w as u32));
-        w += 1;
-    }
-    print::decimal(rt, count)
+    let count = (0..0x40000).filter(|w| canonical(*w)).count();
+    print::decimal(rt, count as u64)
 }

@@ -1,58 +1,55 @@
 -- Laws of instructions as plain numbers: what decode and encode give.
--- By the one test of decode.
-use mathlib.Core.Path.{◌≡◌, sym, ap, ◌∙◌}
-use mathlib.Core.Bool.{Bool, true, false, cond, ◌&&◌}
+-- By the cases of what decode answers, and by whether the fields are those of an instruction that fits.
+use mathlib.Core.Path.{◌≡◌, refl, sym, ap, ◌∙◌}
+use mathlib.Core.Bool.{Bool, true, false, cond}
+use Rattle.std.proofs.Common.{Option, Some, None}
 use Prim.Native.Nat.{ℕ}
 use lib.Dec.{ltb}
 use Rattle.trm_codec.specs.declared.instruction.Instruction.{Instruction}
-use Rattle.trm_codec.specs.declared.instruction.Decoded.{Decoded}
-use Rattle.trm_codec.specs.declared.instruction.Decoded.TheVariants as D
 use Rattle.trm_codec.specs.Decode.{instruction_of, decode_of}
-use Rattle.trm_codec.specs.Encode.{fits, placed}
-use Rattle.trm_codec.specs.Refusals.{word_refusal}
+use Rattle.trm_codec.specs.Encode.{placed, encoded_as}
+use Rattle.trm_codec.specs.Refusals.{decode_number, encode_number, encode_value}
 use Rattle.trm_codec.specs.declared.plain_fields.Fields.{Fields}
-use Rattle.trm_codec.specs.Fields.{plain_fields, fields_of, instruction_at, same_fields, fields_fit}
+use Rattle.trm_codec.specs.Fields.{plain_fields, fields_of, instruction_at, fields_fit}
 use Rattle.trm_codec.specs.Plain.{fields_given, fields_refusal, word_given}
-use Rattle.trm_codec.specs.Promises.{DecodesPlain, EncodesPlain}
+use Rattle.trm_codec.specs.Promises.{Decodes, DecodesPlain, EncodesPlain}
 
 -- the instruction of an answer, and j if it was refused
-held : Instruction → Decoded → Instruction
-held j (D.Instruction i) = i
-held j D.Refused = j
+held : Instruction → Option Instruction → Instruction
+held j (Some i) = i
+held j None = j
 
-pub decoded-is : (w : ℕ) (i : Instruction) → decode_of w ≡ D.Instruction i → instruction_of w ≡ i
+pub decoded-is : (w : ℕ) (i : Instruction) → decode_of w ≡ Some i → instruction_of w ≡ i
 unfolding decode_of held
 decoded-is w i e = go (ltb 0x3FFFF w) e
   where
-    go : (t : Bool) → cond t D.Refused (D.Instruction (instruction_of w)) ≡ D.Instruction i → instruction_of w ≡ i
+    go : (t : Bool) → cond t None (Some (instruction_of w)) ≡ Some i → instruction_of w ≡ i
     go true h = ap (held (instruction_of w)) h
     go false h = ap (held (instruction_of w)) h
 
-pub decoded : (w : ℕ) (i : Instruction) → word_refusal w ≡ 0 → decode_of w ≡ D.Instruction i
-    → DecodesPlain w (record { fields = fields_of i; number = 0 })
+-- the fields of an answer; zeros for a refusal
+abbrev pub fields_shown : Option Instruction → Fields
+fields_shown (Some i) = fields_of i
+fields_shown None = plain_fields 0 0 0 0
+
+pub shown : (w : ℕ) (r : Option Instruction) → Decodes w r → DecodesPlain w (record { fields = fields_shown r; number = decode_number r })
 unfolding fields_given
-decoded w i z e = record { number = sym z; fields = rw (z, decoded-is w i e) }
+shown w (Some i) d = record { number = d.number; fields = rw (← d.number, decoded-is w i (sym d.answer)) }
+shown w None d = record { number = d.number; fields = rw (← d.number) }
 
-pub not-decoded : (w : ℕ) → word_refusal w ≡ 3 → DecodesPlain w (record { fields = plain_fields 0 0 0 0; number = 3 })
-unfolding fields_given
-not-decoded w z = record { number = sym z; fields = rw z }
+pub word_shown : (f : Fields) (r : Option ℕ) → r ≡ encoded_as (fields_fit f) (placed (instruction_at f))
+    → EncodesPlain f (record { number = encode_number r; word = encode_value r })
+unfolding fields_refusal word_given
+word_shown f r e =
+    record {
+      number = ap encode_number e ∙ number (fields_fit f) (placed (instruction_at f));
+      word = ap encode_value e ∙ word (fields_fit f) (placed (instruction_at f));
+    }
+  where
+    number : (ok : Bool) (w : ℕ) → encode_number (encoded_as ok w) ≡ cond ok 0 10
+    number true w = refl
+    number false w = refl
 
--- the refusal and the word, given whether the fields are those of i
-abbrev refusal_of : Instruction → Bool → ℕ
-refusal_of i ok = cond (ok && fits i) 0 10
-
-abbrev word_of : Instruction → Bool → ℕ
-word_of i ok = cond (ok && fits i) (placed i) 0
-
--- i is the instruction of the fields
-module _ (f : Fields) (i : Instruction) (at : i ≡ instruction_at f) (ok : Bool) (e : same_fields f (fields_of i) ≡ ok) where
-  refusal-at : refusal_of i ok ≡ fields_refusal f
-  unfolding fields_refusal fields_fit
-  refusal-at = ap (refusal_of i) (sym e) ∙ ap (λ (j : Instruction). refusal_of j (same_fields f (fields_of j))) at
-
-  word-at : word_of i ok ≡ word_given f
-  unfolding word_given fields_fit
-  word-at = ap (word_of i) (sym e) ∙ ap (λ (j : Instruction). word_of j (same_fields f (fields_of j))) at
-
-  pub encoded : (n w : ℕ) → n ≡ refusal_of i ok → w ≡ word_of i ok → EncodesPlain f (record { number = n; word = w })
-  encoded n w number word = record { number = number ∙ refusal-at; word = word ∙ word-at }
+    word : (ok : Bool) (w : ℕ) → encode_value (encoded_as ok w) ≡ cond ok w 0
+    word true w = refl
+    word false w = refl

@@ -2,12 +2,10 @@
 -- By the one test of each: a word above 3FFFFH, an instruction with a field outside its width.
 use mathlib.Core.Path.{◌≡◌, refl, sym, ap, ◌∙◌}
 use mathlib.Core.Bool.{Bool, true, false, cond}
+use Rattle.std.proofs.Common.{Option, Some, None}
 use Prim.Native.Nat.{ℕ}
 use lib.Dec.{ltb}
 use Rattle.trm_codec.specs.declared.instruction.Instruction.{Instruction}
-use Rattle.trm_codec.specs.declared.instruction.Decoded.{Decoded}
-use Rattle.trm_codec.specs.declared.instruction.Decoded.TheVariants as D
-use Rattle.trm_codec.specs.declared.instruction.Encoded.{Encoded}
 use Rattle.trm_codec.specs.Decode.{instruction_of, decode_of}
 use Rattle.trm_codec.specs.Encode.{fits, placed, encoded_as, encode_of}
 use Rattle.trm_codec.specs.Unused.{unused_zero}
@@ -20,7 +18,7 @@ pub decode-number : (w : ℕ) → decode_number (decode_of w) ≡ word_refusal w
 unfolding decode_of
 decode-number w = go (ltb 0x3FFFF w)
   where
-    go : (t : Bool) → decode_number (cond t D.Refused (D.Instruction (instruction_of w))) ≡ cond t 3 0
+    go : (t : Bool) → decode_number (cond t None (Some (instruction_of w))) ≡ cond t 3 0
     go true = refl
     go false = refl
 
@@ -33,7 +31,7 @@ decode-value : (w : ℕ) → decode_value (decode_of w) ≡ cond (ltb 0x3FFFF w)
 unfolding decode_of
 decode-value w = go (ltb 0x3FFFF w)
   where
-    go : (t : Bool) → decode_value (cond t D.Refused (D.Instruction (instruction_of w))) ≡ cond t 0 (unused_zero w)
+    go : (t : Bool) → decode_value (cond t None (Some (instruction_of w))) ≡ cond t 0 (unused_zero w)
     go true = refl
     go false = placed_instruction w
 
@@ -54,10 +52,10 @@ encode-value i = go (fits i)
     go false = refl
 
 -- an answer equal to the definition's meets the whole contract
-pub decodes : (w : ℕ) (r : Decoded) → r ≡ decode_of w → Decodes w r
+pub decodes : (w : ℕ) (r : Option Instruction) → r ≡ decode_of w → Decodes w r
 decodes w r e =
     record { answer = e; number = ap decode_number e ∙ decode-number w; value = ap decode_value e ∙ decode-value w }
 
-pub encodes : (i : Instruction) (r : Encoded) → r ≡ encode_of i → Encodes i r
+pub encodes : (i : Instruction) (r : Option ℕ) → r ≡ encode_of i → Encodes i r
 encodes i r e =
     record { answer = e; number = ap encode_number e ∙ encode-number i; value = ap encode_value e ∙ encode-value i }

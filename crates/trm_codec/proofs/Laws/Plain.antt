@@ -2,6 +2,7 @@
 -- Fields that fit are those of their instruction, and conversely; the rest follows from the inverses of decode and encode.
 use mathlib.Core.Path.{◌≡◌, refl, sym, ap, ◌∙◌}
 use mathlib.Core.Bool.{Bool, true, false, cond, and-eq-true_iff}
+use Rattle.std.proofs.Common.{Some}
 use Prim.Native.Nat.{ℕ}
 use native.Mathlib.Omega.{arith}
 use borrow.Author.Tests.{eqb-true, eq-eqb}
@@ -10,8 +11,6 @@ use Rattle.trm_codec.specs.declared.instruction.Operand.TheVariants.{Register, L
 use Rattle.trm_codec.specs.declared.instruction.Instruction.{Instruction}
 use Rattle.trm_codec.specs.declared.instruction.Instruction.TheVariants.{Arithmetic, MoveHigh, SetStatus, Jump, JumpAndLink}
 use Rattle.trm_codec.specs.declared.instruction.Instruction.TheVariants.{ReturnFromInterrupt, Load, Store, Branch, Call}
-use Rattle.trm_codec.specs.declared.instruction.Decoded.TheVariants as D
-use Rattle.trm_codec.specs.declared.instruction.Encoded.TheVariants as E
 use Rattle.trm_codec.specs.Decode.{decode_of}
 use Rattle.trm_codec.specs.Encode.{fits, placed, encoded_as, encode_of}
 use Rattle.trm_codec.specs.Refusals.{decode_number, word_refusal}
@@ -72,7 +71,7 @@ accepted true e = refl
 accepted false e = absurd (omega arith)
 
 -- a word that decodes is not refused, and gives the fields of its instruction
-given : (w : ℕ) (i : Instruction) → decode_of w ≡ D.Instruction i → (word_refusal w ≡ 0) × (fields_given w ≡ fields_of i)
+given : (w : ℕ) (i : Instruction) → decode_of w ≡ Some i → (word_refusal w ≡ 0) × (fields_given w ≡ fields_of i)
 unfolding fields_given
 given w i e =
     let z : word_refusal w ≡ 0 = sym (decode-number w) ∙ ap decode_number e in
@@ -84,13 +83,13 @@ plain_decode f e =
     let t = (and-eq-true_iff _ _).0 (accepted (fields_fit f) e) in
     let same : f ≡ fields_of (instruction_at f) = same-is f (fields_of (instruction_at f)) t.0 in
     let word : word_given f ≡ placed (instruction_at f) = rw (accepted (fields_fit f) e) in
-    let encoded : encode_of (instruction_at f) ≡ E.Word (placed (instruction_at f)) =
+    let encoded : encode_of (instruction_at f) ≡ Some (placed (instruction_at f)) =
     ap (λ ok. encoded_as ok (placed (instruction_at f))) t.1 in
     let g = given (placed (instruction_at f)) (instruction_at f) (encode_decode (instruction_at f) _ encoded) in
     (ap word_refusal word ∙ g.0, ap fields_given word ∙ g.1 ∙ sym same)
 
 -- the fields of an instruction that encodes are accepted, and give its word
-gives : (i : Instruction) (w : ℕ) → encode_of i ≡ E.Word w → (fields_refusal (fields_of i) ≡ 0) × (word_given (fields_of i) ≡ w)
+gives : (i : Instruction) (w : ℕ) → encode_of i ≡ Some w → (fields_refusal (fields_of i) ≡ 0) × (word_given (fields_of i) ≡ w)
 unfolding fields_refusal fields_fit word_given encode_of
 gives i w e =
     let p = passed (fits i) (placed i) w e in

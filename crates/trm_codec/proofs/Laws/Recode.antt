@@ -2,6 +2,7 @@
 -- By cases of the form: the fields fit, and placed at their bits they are the word under the mask of the form.
 use mathlib.Core.Path.{◌≡◌, refl, sym, ◌∙◌}
 use mathlib.Core.Bool.{and-eq-true_iff, Bool, true, false, ◌&&◌}
+use Rattle.std.proofs.Common.{Some}
 use Prim.Native.Nat.{ℕ, zero, suc, ◌+◌, ◌-◌, ◌*◌, ◌/◌, ◌%◌, ◌^◌, ◌<◌, ◌≤◌}
 use native.Mathlib.Nat.{mod-lt}
 use native.Mathlib.Omega.{arith}
@@ -11,7 +12,6 @@ use lib.Bits.{bit_and}
 use borrow.Author.Tests.{ltb-true, ltb-false, eqb-true, eqb-false, lt-ltb, le-ltb}
 use Rattle.trm_codec.specs.declared.instruction.Instruction.{Instruction}
 use Rattle.trm_codec.specs.declared.instruction.Instruction.TheVariants.{Call}
-use Rattle.trm_codec.specs.declared.instruction.Encoded.TheVariants as E
 use Rattle.trm_word.specs.Fields.{bit, moves_high, operation, destination, source, jump_form, call_offset}
 use Rattle.trm_codec.specs.Decode.{arithmetic_of, control_of, other_forms, instruction_of, decode_of}
 use Rattle.trm_codec.specs.Encode.{fits, placed, encode_of}
@@ -20,7 +20,7 @@ use Rattle.trm_codec.specs.Claims.{Recodes}
 use Rattle.trm_codec.proofs.Laws.Operations.{number_at}
 use Rattle.trm_codec.proofs.Laws.Masks as M
 
-encoded_as_lem : (i : Instruction) (v : ℕ) → fits i ≡ true → placed i ≡ v → encode_of i ≡ E.Word v
+encoded_as_lem : (i : Instruction) (v : ℕ) → fits i ≡ true → placed i ≡ v → encode_of i ≡ Some v
 unfolding encode_of
 encoded_as_lem i v f e = rw (f, e)
 
@@ -77,12 +77,12 @@ module _ (w : ℕ) where
   s-fits : ltb (source w) 8 ≡ true
   s-fits = inside w 8 (lit< tt)
 
-  arithmetic_recodes : operation w < 11 → encode_of (arithmetic_of w) ≡ E.Word (bit_and w (used_arithmetic w))
+  arithmetic_recodes : operation w < 11 → encode_of (arithmetic_of w) ≡ Some (bit_and w (used_arithmetic w))
   unfolding arithmetic_of
   arithmetic_recodes l = go (moves_high w) refl (eqb (bit 10 w) 1) refl
     where
       go : (t : Bool) → moves_high w ≡ t → (s : Bool) → eqb (bit 10 w) 1 ≡ s
-          → encode_of (arithmetic_of w) ≡ E.Word (bit_and w (used_arithmetic w))
+          → encode_of (arithmetic_of w) ≡ Some (bit_and w (used_arithmetic w))
       go true e s f =
           let a = (and-eq-true_iff _ _).0 e in
           let b = (and-eq-true_iff _ _).0 a.1 in
@@ -98,12 +98,12 @@ module _ (w : ℕ) where
           (encoded_as_lem _ _ (rw (d-fits, inside w 1024 (lit< tt)))
           (rw (number_at (operation w) l) (add-literal _ _ _ _ (bit-clear _ (eqb-false _ _ f)) ∙ sym (M.mask-literal w))))
 
-  control_recodes : operation w ≡ 11 → encode_of (control_of w) ≡ E.Word (bit_and w (used_control w))
+  control_recodes : operation w ≡ 11 → encode_of (control_of w) ≡ Some (bit_and w (used_control w))
   unfolding control_of
   control_recodes o = go (eqb (bit 10 w) 0) refl (eqb (jump_form w) 0) refl (eqb (jump_form w) 2) refl
     where
       go : (t : Bool) → eqb (bit 10 w) 0 ≡ t → (u : Bool) → eqb (jump_form w) 0 ≡ u → (v : Bool) → eqb (jump_form w) 2 ≡ v
-          → encode_of (control_of w) ≡ E.Word (bit_and w (used_control w))
+          → encode_of (control_of w) ≡ Some (bit_and w (used_control w))
       go true e u f v g =
           rw e (encoded_as_lem _ _ (inside w 16 (lit< tt)) (add-status _ _ _ o (eqb-true _ _ e) ∙ sym (M.mask-status w)))
       go false e true f v g =
@@ -124,7 +124,7 @@ module _ (w : ℕ) where
 
   -- operations 11 to 15; k is the operation minus 11
   other_recodes : (k : ℕ) → operation w ≡ k + 11
-      → encode_of (get_or (other_forms w) k (Call (call_offset w))) ≡ E.Word (bit_and w (get_or (used_others w) k 0x3CFFF))
+      → encode_of (get_or (other_forms w) k (Call (call_offset w))) ≡ Some (bit_and w (get_or (used_others w) k 0x3CFFF))
   other_recodes zero o = control_recodes o
   other_recodes (suc zero) o = encoded_as_lem _ _ memory-fits (add-memory 12 _ _ _ _ o ∙ sym (M.mask-memory w))
   other_recodes (suc (suc zero)) o = encoded_as_lem _ _ memory-fits (add-memory 13 _ _ _ _ o ∙ sym (M.mask-memory w))
@@ -136,14 +136,14 @@ module _ (w : ℕ) where
       fifteen : (x j : ℕ) → x % 16 ≡ suc (suc (suc (suc j))) + 11 → x % 16 ≡ 15
       fifteen x j e = omega arith
 
-  pub recodes : encode_of (instruction_of w) ≡ E.Word (unused_zero w)
+  pub recodes : encode_of (instruction_of w) ≡ Some (unused_zero w)
   unfolding instruction_of unused_zero
   recodes = go (ltb (operation w) 11) refl
     where
       above : (x : ℕ) → 11 ≤ x → x ≡ x - 11 + 11
       above x h = omega arith
 
-      go : (t : Bool) → ltb (operation w) 11 ≡ t → encode_of (instruction_of w) ≡ E.Word (unused_zero w)
+      go : (t : Bool) → ltb (operation w) 11 ≡ t → encode_of (instruction_of w) ≡ Some (unused_zero w)
       go true e = rw e (arithmetic_recodes (ltb-true _ _ e))
       go false e = rw e (other_recodes (operation w - 11) (above _ (ltb-false _ _ e)))
 

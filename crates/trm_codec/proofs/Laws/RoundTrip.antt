@@ -2,6 +2,7 @@
 -- By cases of the form: the fields fit, so each field of the word is the one that was placed there.
 use mathlib.Core.Path.{◌≡◌, refl, ap, ◌∙◌}
 use mathlib.Core.Bool.{and-false, and-eq-true_iff, Bool, true, false}
+use Rattle.std.proofs.Common.{Some}
 use Prim.Native.Nat.{ℕ, ◌+◌, ◌*◌, ◌/◌, ◌%◌, ◌<◌, ◌≤◌}
 use native.Mathlib.Omega.{arith}
 use lib.Arith.{digits_div, digits_mod}
@@ -12,8 +13,6 @@ use Rattle.trm_codec.specs.declared.instruction.Operand.TheVariants.{Register, L
 use Rattle.trm_codec.specs.declared.instruction.Instruction.{Instruction}
 use Rattle.trm_codec.specs.declared.instruction.Instruction.TheVariants.{Arithmetic, MoveHigh, SetStatus, Jump, JumpAndLink}
 use Rattle.trm_codec.specs.declared.instruction.Instruction.TheVariants.{ReturnFromInterrupt, Load, Store, Branch, Call}
-use Rattle.trm_codec.specs.declared.instruction.Decoded.TheVariants as D
-use Rattle.trm_codec.specs.declared.instruction.Encoded.TheVariants as E
 use Rattle.trm_word.specs.Fields.{bit, operation, destination, source, literal}
 use Rattle.trm_word.specs.Fields.{new_status, jump_form, memory_offset, condition, branch_offset, call_offset}
 use Rattle.trm_codec.specs.Operations.{operation_at, number_of}
@@ -22,7 +21,7 @@ use Rattle.trm_codec.specs.Encode.{encoded_as, encode_of}
 use Rattle.trm_codec.proofs.Laws.Operations.{at-number, number_lt}
 
 -- if encode gave a word, its test was true
-pub passed : (ok : Bool) (v w : ℕ) → encoded_as ok v ≡ E.Word w → (ok ≡ true) × (w ≡ v)
+pub passed : (ok : Bool) (v w : ℕ) → encoded_as ok v ≡ Some w → (ok ≡ true) × (w ≡ v)
 passed true v w h = (refl, cc)
 passed false v w h = let z : ◌≡◌ {A = ℕ} 0 1 = cc in absurd (omega arith)
 
@@ -33,7 +32,7 @@ at q x k n r w e hx hr = ap (λ (y : ℕ). y / k % n) e ∙ ap (λ (y : ℕ). y 
 lowest : (q x n w : ℕ) → w ≡ q * n + x → x < n → w % n ≡ x
 lowest q x n w e hx = ap (λ (y : ℕ). y % n) e ∙ digits_mod q hx
 
-decoded : (w : ℕ) (i : Instruction) → w ≤ 0x3FFFF → instruction_of w ≡ i → decode_of w ≡ D.Instruction i
+decoded : (w : ℕ) (i : Instruction) → w ≤ 0x3FFFF → instruction_of w ≡ i → decode_of w ≡ Some i
 unfolding decode_of
 decoded w i l e = rw (le-ltb 0x3FFFF w l, e)
 
@@ -143,7 +142,7 @@ call-form x w hx e =
     let ex : call_offset w ≡ x = lowest 60 x 4096 w (omega arith) hx in
     rw (eo, ex)
 
-pub encode_decode : (i : Instruction) (w : ℕ) → encode_of i ≡ E.Word w → decode_of w ≡ D.Instruction i
+pub encode_decode : (i : Instruction) (w : ℕ) → encode_of i ≡ Some w → decode_of w ≡ Some i
 unfolding encode_of
 encode_decode (Arithmetic o d (Register s)) w h =
     let p = passed _ _ w h in

@@ -1,6 +1,5 @@
 // Reading of cases: one input line each.
 // A line is printed as it is read, with its label, so that the answer can follow it.
-use crate::inner::case_text;
 use crate::inner::case_text::Case;
 use std::io;
 use std::io::{ErrorKind, Read};
@@ -14,8 +13,8 @@ fn is_filled(input: &mut impl Read, buf: &mut [u8]) -> io::Result<bool> {
     }
 }
 
-// Reads the next case and prints it with its label; kind 0 if there is none.
-pub fn next_case(rt: &impl Print, input: &mut impl Read) -> io::Result<Case> {
+// Reads the next case and prints it with its label.
+pub fn next_case(rt: &impl Print, input: &mut impl Read) -> io::Result<Option<Case>> {
     let mut text = [0u8; 37];
     let mut label = [0u8; 18];
     let mut end = [0u8; 1];
@@ -23,10 +22,10 @@ pub fn next_case(rt: &impl Print, input: &mut impl Read) -> io::Result<Case> {
         || !is_filled(input, &mut label)?
         || !is_filled(input, &mut end)?
     {
-        return Ok(case_text::none());
+        return Ok(None);
     }
     rt.write_all(&text)?;
     rt.write_all(&label)?;
     rt.write_all(b" ->")?;
-    Ok(case_text::case_of(&text))
+    Ok(Some(Case::from(&text)))
 }

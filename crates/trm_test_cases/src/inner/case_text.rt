@@ -12,6 +12,7 @@ pub struct Case {
     pub w3: u32,
 }
 
+// No `char::to_digit`, which would also read lower-case letters.
 fn digit(c: u8) -> u32
     ensures { result < 16 }
 {
@@ -22,49 +23,23 @@ fn digit(c: u8) -> u32
     }
 }
 
-// A byte from two digits.
-fn byte_at(s: &[u8; 37], at: usize) -> u32
-    requires { at + 2 ≤ 37 }
-    ensures { result < 256 }
-{
-    let high = digit(s[at]);
-    let low = digit(s[at + 1]);
-    high * 16 + low
-}
-
 // A word from eight digits.
 fn word_at(s: &[u8; 37], at: usize) -> u32
     requires { at + 8 ≤ 37 }
 {
-    let a = byte_at(s, at);
-    let b = byte_at(s, at + 2);
-    let c = byte_at(s, at + 4);
-    let d = byte_at(s, at + 6);
-    a * 0x100_0000 + b * 0x1_0000 + c * 0x100 + d
+    s[at..at + 8]
+        .iter()
+        .fold(0, |word, c| word % 0x1000_0000 * 16 + digit(*c))
 }
 
-pub fn case_of(s: &[u8; 37]) -> Case {
-    let kind = s[0];
-    let a = word_at(s, 2);
-    let b = word_at(s, 11);
-    let c = word_at(s, 20);
-    let d = word_at(s, 29);
-    Case {
-        kind: kind,
-        w0: a,
-        w1: b,
-        w2: c,
-        w3: d,
-    }
-}
-
-// The case that means the end of the input.
-pub fn none() -> Case {
-    Case {
-        kind: 0,
-        w0: 0,
-        w1: 0,
-        w2: 0,
-        w3: 0,
+impl From<&[u8; 37]> for Case {
+    fn from(s: &[u8; 37]) -> Case {
+        Case {
+            kind: s[0],
+            w0: word_at(s, 2),
+            w1: word_at(s, 11),
+            w2: word_at(s, 20),
+            w3: word_at(s, 29),
+        }
     }
 }

@@ -11,32 +11,10 @@ pub fn mixed(d: u64, value: u64) -> u64 {
     mixed_half(mixed_half(d, value), value / 0x1_0000_0000)
 }
 
-fn mixed_word(d: u64, word: u32) -> u64 {
-    mixed_half(d, word as u64)
-}
-
-fn mixed_byte(d: u64, byte: u8) -> u64 {
-    mixed_half(d, byte as u64)
-}
-
-// The digest of all words of a list, in order.
-pub fn of_words(list: &[u32]) -> u64 {
-    let mut d: u64 = 0;
-    let mut at: usize = 0;
-    while at < list.len() {
-        d = mixed_word(d, list[at]);
-        at += 1;
-    }
-    d
-}
-
-// The digest of all bytes of a list, in order.
-pub fn of_bytes(list: &[u8]) -> u64 {
-    let mut d: u64 = 0;
-    let mut at: usize = 0;
-    while at < list.len() {
-        d = mixed_byte(d, list[at]);
-        at += 1;
-    }
-    d
+// The digest of all bytes or words of a list, in order.
+pub fn of<T: Copy>(list: &[T]) -> u64
+where
+    u64: From<T>,
+{
+    list.iter().fold(0, |d, x| mixed_half(d, u64::from(*x)))
 }

@@ -12,6 +12,7 @@ fn low(x: u64) -> u32 {
 }
 
 // A field that is not in an array; 0 for another number.
+// Two matches, to read and to set: a reference to the field would have two types, u32 and u64, and is no plainer.
 fn scalar(c: Scalars, which: usize) -> u64 {
     match which {
         0 => c.pc,
@@ -36,29 +37,28 @@ fn scalar(c: Scalars, which: usize) -> u64 {
 }
 
 // Sets such a field, cut to its type.
-fn with_scalar(c: Scalars, which: usize, value: u64) -> Scalars {
-    let mut next = c;
+fn with_scalar(mut c: Scalars, which: usize, value: u64) -> Scalars {
     match which {
-        0 => next.pc = value,
-        1 => next.h = low(value),
-        2 => next.n = value,
-        3 => next.z = value,
-        4 => next.c = value,
-        5 => next.v = value,
-        6 => next.status = value,
-        7 => next.running.phase = value,
-        8 => next.running.count = value,
-        9 => next.running.product = value,
-        10 => next.running.remainder = value,
-        11 => next.running.quotient = value,
-        12 => next.size = low(value),
-        13 => next.counts.clocks = value,
-        14 => next.counts.held = value,
-        15 => next.counts.refills = value,
-        16 => next.counts.writebacks = value,
+        0 => c.pc = value,
+        1 => c.h = low(value),
+        2 => c.n = value,
+        3 => c.z = value,
+        4 => c.c = value,
+        5 => c.v = value,
+        6 => c.status = value,
+        7 => c.running.phase = value,
+        8 => c.running.count = value,
+        9 => c.running.product = value,
+        10 => c.running.remainder = value,
+        11 => c.running.quotient = value,
+        12 => c.size = low(value),
+        13 => c.counts.clocks = value,
+        14 => c.counts.held = value,
+        15 => c.counts.refills = value,
+        16 => c.counts.writebacks = value,
         _ => {}
     }
-    next
+    c
 }
 
 // Any field; 0 if there is none of this number.
@@ -74,29 +74,19 @@ pub fn field(m: Machine, which: usize) -> u64 {
 }
 
 // The record with one field set; unchanged if there is none of this number.
-pub fn with_field(m: Machine, which: usize, value: u64) -> Machine {
-    let mut next = m;
+pub fn with_field(mut m: Machine, which: usize, value: u64) -> Machine {
     match which {
-        17..=32 => next.regs[which - 17] = low(value),
-        33..=48 => next.cache.full[which - 33] = (value % 256) as u8,
-        49..=64 => next.cache.dirty[which - 49] = (value % 256) as u8,
-        65..=80 => next.cache.block[which - 65] = (value % 65536) as u16,
-        81..=208 => next.cache.words[which - 81] = low(value),
-        _ => {
-            let c = with_scalar(m.scalars, which, value);
-            next.scalars = c;
-        }
+        17..=32 => m.regs[which - 17] = low(value),
+        33..=48 => m.cache.full[which - 33] = (value % 256) as u8,
+        49..=64 => m.cache.dirty[which - 49] = (value % 256) as u8,
+        65..=80 => m.cache.block[which - 65] = (value % 65536) as u16,
+        81..=208 => m.cache.words[which - 81] = low(value),
+        _ => m.scalars = with_scalar(m.scalars, which, value),
     }
-    next
+    m
 }
 
 // The digest of all fields, in the order of their numbers.
 pub fn digest_of(m: Machine) -> u64 {
-    let mut d: u64 = 0;
-    let mut which: usize = 0;
-    while which < FIELDS {
-        d = digest::mixed(d, field(m, which));
-        which += 1;
-    }
-    d
+    (0..FIELDS).fold(0, |d, which| digest::mixed(d, field(m, which)))
 }

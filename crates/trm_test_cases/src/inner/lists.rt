@@ -6,8 +6,8 @@ ghost use Rattle.std.specs.Prelude.{◌≤◌, ◌≡◌, length};
 use crate::inner::print;
 use std::io;
 
-// 65,537 bytes of one value. The contract gives only the length, which keeps the check of the callers small.
-pub fn bytes_of(value: u8) -> [u8; 65537]
+// 65,537 bytes or words of one value. The contract gives only the length, which keeps the check of the callers small.
+pub fn filled<T: Copy>(value: T) -> [T; 65537]
     ensures { 65537 ≡ length result }
 {
     [value; 65537]
@@ -17,16 +17,9 @@ pub fn bytes_of(value: u8) -> [u8; 65537]
 pub fn bytes_but_one(w: u32) -> [u8; 65537]
     ensures { 65537 ≡ length result }
 {
-    let mut list = bytes_of((w % 256) as u8);
+    let mut list = filled((w % 256) as u8);
     list[(w / 65536) as usize] = (w / 256 % 256) as u8;
     list
-}
-
-// 65,537 words of one value.
-pub fn words_of(value: u32) -> [u32; 65537]
-    ensures { 65537 ≡ length result }
-{
-    [value; 65537]
 }
 
 // The length n + more - 1, mod 65,538.
@@ -40,31 +33,19 @@ pub fn length_of(n: u32, more: u32) -> usize
 pub fn within(list: &[u32], n: u32) -> usize
     ensures { result ≤ length list.now }
 {
-    if (n as usize) < list.len() {
-        n as usize
-    } else {
-        list.len()
-    }
+    list.len().min(n as usize)
 }
 
 // Sets `count` words from index `from` on to a value.
 pub fn fill(list: &mut [u32], from: u32, count: u32, value: u32) {
-    let mut at = from as usize;
-    let mut left = count as usize;
-    while 0 < left {
-        if list.len() <= at {
-            return;
-        }
-        list[at] = value;
-        at += 1;
-        left -= 1;
+    for word in list.iter_mut().skip(from as usize).take(count as usize) {
+        *word = value;
     }
 }
 
 pub fn show(rt: &impl Print, list: &[u32], at: u32) -> io::Result<()> {
-    let i = at as usize;
-    if i < list.len() {
-        print::word(rt, list[i])?;
+    match list.get(at as usize) {
+        Some(w) => print::word(rt, *w),
+        None => Ok(()),
     }
-    Ok(())
 }

@@ -1,5 +1,6 @@
 // Printing of answers: every part is printed after a space.
 // Hexadecimal numbers have lower-case digits, with zeros in front up to a width.
+// Each function takes `rt`, as std's `print!` does: a struct that holds it would stand in the same signatures, and is no plainer.
 use std::io;
 
 pub fn text(rt: &impl Print, s: &[u8]) -> io::Result<()> {

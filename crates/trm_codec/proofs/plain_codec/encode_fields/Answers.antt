@@ -1,34 +1,10 @@
--- By cases: the fields are those of the instruction or not, then what encode answers (law `encoded`).
-use Rattle.trm_codec.proofs.Laws.Fields.{encoded}
-use mathlib.Core.Bool.{true, false}
-use mathlib.Core.Path.{refl, sym, ap, ◌∙◌}
-use Rattle.trm_codec.specs.Refusals.{encode_number, encode_value}
+-- Each answer has the number and the word of the paper (law `word_shown`).
+use Rattle.std.proofs.Common.{Some, None}
+use Rattle.trm_codec.proofs.Laws.Fields.{word_shown}
 use Rattle.trm_codec.proofs.plain_codec.encode_fields.Goals as goal
 
-pub returns-then-not-same_fields : goal.returns-then-not-same_fields
-returns-then-not-same_fields c =
-    encoded _ _ c.instruction_at-i.ensures false (rw (
-      ← c.fields_of.ensures,
-      ← c.same_fields.ensures,
-    ) c.if-not-same_fields.true) _ _ refl refl
+pub returns-in-Some : goal.returns-in-Some
+returns-in-Some c = word_shown _ (Some c.in-Some.w) c.in-Some.ensures
 
-pub returns-in-Word : goal.returns-in-Word
-returns-in-Word c =
-    let e = c.encode-r.ensures in
-    let g = c.in-Word.is in
-    encoded _ _ c.instruction_at-i.ensures true (rw (
-      ← c.fields_of.ensures,
-      ← c.same_fields.ensures,
-    )
-    c.if-not-same_fields.false) _ _
-    (sym (ap encode_number g) ∙ e.number) (sym (ap encode_value g) ∙ e.value)
-
-pub returns-in-Refused : goal.returns-in-Refused
-returns-in-Refused c =
-    let e = c.encode-r.ensures in
-    let g = c.in-Refused.is in
-    encoded _ _ c.instruction_at-i.ensures true (rw (
-      ← c.fields_of.ensures,
-      ← c.same_fields.ensures,
-    ) c.if-not-same_fields.false) _ _ (sym (ap encode_number g) ∙ e.number) (sym
-    (ap encode_value g) ∙ e.value)
+pub returns-in-None : goal.returns-in-None
+returns-in-None c = word_shown _ None c.in-None.ensures

@@ -1,8 +1,6 @@
 -- The proof of trm_list_rows::inner::first_clock::first_arithmetic.
-use mathlib.Core.Path.{sym, ap, ◌∙◌}
-use lib.ListN.{get_or}
+use mathlib.Core.Path.{sym, ◌∙◌}
 use native.Mathlib.Omega.{arith}
-use Rattle.trm_word.specs.Fields.{operation}
 use Rattle.trm_clock_laws.proofs.Laws.Facts.{facts}
 use Rattle.trm_clock_laws.proofs.Laws.Kinds.{charged-of, cheap_of, kind-stepped, kind-short}
 use Rattle.trm_clock_laws.proofs.Laws.First.{first-longer, first_quick, idle-running}
