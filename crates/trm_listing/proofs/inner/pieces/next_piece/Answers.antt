@@ -23,10 +23,7 @@ returns-then-l c =
 
 pub list_runs-r-requires : goal.list_runs-r-requires
 unfolding rest_of pins_left
-list_runs-r-requires c = (
-  stands_in _ _ _ _ _ _ (c.requires.0 c.if-l.false) (omega arith),
-  c.base_charges-base.ensures,
-)
+list_runs-r-requires c = stands_in _ _ _ _ _ _ (c.requires.0 c.if-l.false) (omega arith)
 
 pub put_last-end-requires : goal.put_last-end-requires
 unfolding rest_of pins_left

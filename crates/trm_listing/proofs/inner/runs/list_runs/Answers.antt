@@ -43,11 +43,8 @@ next_run-next-requires c =
     (n.nine, n.whole)
 
 pub run_here-p-requires-in-loop-p : goal.run_here-p-requires-in-loop-p
-run_here-p-requires-in-loop-p c = (
-  (along-next _ _ _ _ _ _ _ _ c.next_run-next.ensures c.loop-p.invariant.0.stands c.if-p-ne0.false
-      c.loop-p-test.true).stands,
-  c.requires.1,
-)
+run_here-p-requires-in-loop-p c =
+    (along-next _ _ _ _ _ _ _ _ c.next_run-next.ensures c.loop-p.invariant.0.stands c.if-p-ne0.false c.loop-p-test.true).stands
 
 pub loop-p-smaller : goal.loop-p-smaller
 loop-p-smaller c =

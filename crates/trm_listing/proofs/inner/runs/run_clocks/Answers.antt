@@ -30,5 +30,4 @@ list_clocks-requires c = (
   c.requires.0,
   c.requires.1,
   sym c.is_stalled.ensures ∙ c.if-is_stalled.false,
-  c.requires.2,
 )

@@ -4,11 +4,11 @@ use Rattle.trm_listing.proofs.inner.runs.run_here.Goals as goal
 
 pub run_clocks-listed-requires : goal.run_clocks-listed-requires
 run_clocks-listed-requires c =
-    (c.requires.0.able, c.requires.0.fits, c.requires.1)
+    (c.requires.able, c.requires.fits)
 
 pub returns : goal.returns
 returns c = (
-  along-clocks _ _ _ _ _ _ _ _ c.requires.0 c.run_clocks-listed.ensures.0,
+  along-clocks _ _ _ _ _ _ _ _ c.requires c.run_clocks-listed.ensures.0,
   c.run_clocks-listed.ensures.1,
   refl,
 )
