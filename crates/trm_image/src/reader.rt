@@ -35,7 +35,7 @@ pub fn check(image: &[u8], words: usize) -> Result<(), Refusal>
 
 // The payload of the record at `at` as a slice of the image. It is refused if the image is too long, if no record begins there, or if the
 // record is cut short.
-#[tactic(auto, using(crate::proofs::Laws::Places::record_inside, crate::proofs::Laws::Walk::uncut), unfolding(crate::specs::Refused::payload_fault, crate::specs::Promises::payload_gives))]
+#[tactic(auto, unfolding(crate::specs::Refused::payload_fault, crate::specs::Promises::payload_gives))]
 pub fn payload(image: &[u8], at: usize) -> Result<&[u8], Fault>
     ensures number { refusal_number result ≡ payload_fault image.now at }
     ensures part { IfOk result (λ part. part.now ≡ payload_gives image.now at) }
