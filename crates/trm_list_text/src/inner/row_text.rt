@@ -81,6 +81,7 @@ pub fn put_end(
     text.len
 }
 
+#[tactic(auto, using(crate::proofs::Laws::Wrote::wrote_then), unfolding(crate::specs::Rows::refused_bytes))]
 pub fn put_refused(buf: &mut [u8], at: usize, number: u64, offset: u64) -> usize
     requires { at + 32 ≤ length buf.old }
     ensures { Wrote buf.old at (refused_bytes number offset) buf.new result × (result ≤ at + 32) }
