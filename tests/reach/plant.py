@@ -9,9 +9,13 @@ from rattle import Unknown, partners_of, text_of, tokens_of
 # Every keyword of Rust that begins a form; only those known here may occur.
 RUST = set('''as async await break const continue crate dyn else enum extern fn for if impl in let loop macro_rules match mod move mut pub
     ref return self static struct super trait type union unsafe use where while yield'''.split())
-KNOWN = set('as break const continue crate else enum extern fn if impl let match mod mut pub return self struct super use while'.split())
-# Operators with a branch of their own, an operand that may not be evaluated: known only between the parts of a condition.
+KNOWN = set('''as break const continue crate else enum extern fn for if impl in let match mod mut pub return self struct super use
+    while'''.split())
+# Operators with a branch of their own: an operand that may not be evaluated. Each operand has counters.
 BRANCHING = {'&&', '||'}
+# What an expression that is no condition begins behind and ends before; a closure's parameters end with a `|`.
+BEFORE_VALUE = {'{', '}', '(', '[', ';', ',', '=', '=>', '|', 'return'}
+AFTER_VALUE = {'}', ')', ']', ';', ','}
 # Macros that take the handle of the program, as `println!(rt; "..")`; the stand-in of std has them, too.
 PRINTING = {'print', 'println', 'eprint', 'eprintln'}
 
@@ -98,7 +102,7 @@ class Planter:
         """A counter for each of the two outcomes of a condition."""
         yes, no = (self.new_place(begin, f'{text}, {way}') for way in ('true', 'false'))
         self.before[begin] += ' reach::either('
-        self.before[end] += f', {yes}, {no})'
+        self.before[end] = f', {yes}, {no})' + self.before[end]
 
     def plant_condition(self, at):
         """if and while: counters for each part of the condition between `&&` and `||`."""
@@ -106,7 +110,7 @@ class Planter:
             return
         body = self.next_open(at + 1)
         if self.is_mark(at + 1, 'let'):
-            self.stop(at, f'`{self.tokens[at].text} let`')
+            return self.plant_if_let(at, body)
         begin = here = at + 1
         while here <= body:
             if here == body or self.is_mark(here, *BRANCHING):
@@ -117,8 +121,48 @@ class Planter:
         if self.is_mark(at, 'if'):
             self.before_else.add(self.partners[body])
 
+    def plant_if_let(self, at, body):
+        """if let: a counter where the pattern fits, and one where it does not."""
+        if not self.is_mark(at, 'if'):
+            self.stop(at, f'`{self.tokens[at].text} let`')
+        text = f'if {text_of(self.tokens[at + 1:body])}'
+        fits, other = (self.new_place(at, f'{text}, {way}') for way in ('fits', 'else'))
+        self.before[body + 1] += f' reach::hit({fits});'
+        end = self.partners[body]
+        if self.is_mark(end + 1, 'else'):
+            self.before[self.next_open(end + 2) + 1] += f' reach::hit({other});'
+            self.before_else.add(end)
+        else:
+            self.before[end + 1] += f' else {{ reach::hit({other}); }}'
+        self.known.add(at + 1)
+
+    def plant_for(self, at):
+        """for: a counter for a turn, as the loop may have none."""
+        body = self.next_open(at + 1)
+        over = [token.text for token in self.tokens[at + 1:body]]
+        if 'in' in over:  # else it is `impl .. for ..`
+            self.before[body + 1] += f' reach::hit({self.new_place(at, f"for {text_of(self.tokens[at + 1:body])}")});'
+
+    def plant_value(self, at):
+        """A value with `&&` or `||`: counters for each operand, as in a condition."""
+        closing = {end: begin for begin, end in self.partners.items()}
+        begin = at
+        while not self.is_mark(begin - 1, *BEFORE_VALUE):
+            begin = closing.get(begin - 1, begin - 1)
+        first = here = begin
+        while True:
+            if self.is_mark(here, *BRANCHING, *AFTER_VALUE):
+                self.plant_outcomes(first, here, f'value {text_of(self.tokens[first:here])}')
+                self.known.add(here)
+                first = here + 1
+            if self.is_mark(here, *AFTER_VALUE):
+                return
+            here = self.partners.get(here, here) + 1
+
     def plant_let(self, at):
         """let .. else: a counter where the pattern fits, and one where it does not."""
+        if at in self.known:
+            return
         end = at + 1
         while not self.is_mark(end, ';') and not (self.is_mark(end, 'else') and not self.is_mark(end - 1, '}')):
             end = self.partners.get(end, end) + 1
@@ -222,12 +266,12 @@ class Planter:
 
     def plant(self):
         """Inserts all counters; returns the text as Rust."""
-        forms = {'fn': self.plant_function, 'if': self.plant_condition, 'while': self.plant_condition, 'match': self.plant_match,
+        forms = {'fn': self.plant_function, 'for': self.plant_for, 'if': self.plant_condition, 'while': self.plant_condition, 'match': self.plant_match,
                  'let': self.plant_let, 'derive': self.drop_drop, 'unsafe': self.drop_export}
         self.before[0] += 'use reach::prelude::*;'
         for at, token in enumerate(self.tokens):
             if token.kind == 'mark' and token.text in BRANCHING and at not in self.known:
-                self.stop(at, f'`{token.text}` has a way of its own; no counter is planted for it here')
+                self.plant_value(at)
             if token.kind == 'name':
                 self.check_name(at)
                 forms.get(token.text, lambda _: None)(at)

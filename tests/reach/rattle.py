@@ -6,11 +6,14 @@ from dataclasses import dataclass
 
 TOKEN = re.compile(r'''(?P<gap>\s+|//[^\n]*)
     |(?P<string>b?"(?:\\.|[^"\\])*"|b'(?:\\.|[^'\\])')
+    |(?P<lifetime>'[a-z_]\w*)
     |(?P<number>\d\w*)
     |(?P<name>[A-Za-z_]\w*)
     |(?P<mark>=>|->|::|\.\.=|\.\.|==|!=|<=|>=|<<|>>|[-+*/%]=|&&|\|\||[-+*/%&|^!<>=(){}\[\],;:.\#?])''', re.X | re.A)
 CONTRACT = re.compile(r'(?:requires|ensures)\*?\s*(?:\w+\s*)?\{')
 GHOST_USE = re.compile(r'ghost\s+use\s[^;]*;')
+GHOST_MEMBER = re.compile(r'ghost\s+\w+\s*[:=]\s*\{')
+GHOST_VALUE = re.compile(r'\s*=\s*\{')
 PROVING = re.compile(r'#!?\[\s*(?:tactic|cycle)\b')
 PAIRS = {'(': ')', '[': ']', '{': '}'}
 
@@ -41,12 +44,18 @@ def closing_end(path, text, at, opening='{'):
 
 
 def ghost_end(path, text, at, name):
-    """The index after a contract or a `ghost use` that begins here."""
-    pattern = GHOST_USE if name == 'ghost' else CONTRACT
-    found = pattern.match(text, at)
+    """The index after a contract, a `ghost use`, or a ghost field or member, with its `,` or `;`, that begins here."""
+    if name == 'ghost' and (found := GHOST_USE.match(text, at)):
+        return found.end()
+    found = (GHOST_MEMBER if name == 'ghost' else CONTRACT).match(text, at)
     if not found:
         raise Unknown(path, text.count('\n', 0, at) + 1, f'`{name}` in a form that is not known')
-    return found.end() if name == 'ghost' else closing_end(path, text, found.end())
+    end = closing_end(path, text, found.end())
+    if name == 'ghost':
+        if value := GHOST_VALUE.match(text, end):
+            end = closing_end(path, text, value.end())
+        end += text[end:end + 1] in (',', ';')
+    return end
 
 
 def tokens_of(path, text):

@@ -12,8 +12,8 @@ use std::io;
 use std::io::{ErrorKind, Read, Write};
 use trm_listing::inner::pieces;
 
-// Reads until the buffer is full or the input ends; returns the number of bytes that it read. A loop: the library's `read_exact` fails where
-// the input ends before.
+// Reads until the buffer is full or the input ends; returns the number of bytes that it read. A loop: the library's `read_exact` fails
+// where the input ends before.
 pub fn read_full<R: Read>(input: &mut R, buf: &mut [u8]) -> io::Result<usize>
     ensures within { IfOk result (λ n. n ≤ length buf.new) }
     ensures taken { IfOk result (λ n. Consumes (R.remaining input.old) (R.remaining input.new) (take n buf.new)) }
