@@ -21,6 +21,7 @@ pub fn record_at(image: &[u8], at: usize) -> bool
 }
 
 // The payload of the record at `at`, which must not be cut short.
+#[tactic(auto, unfolding(crate::specs::Records::payload_at))]
 pub fn part_at(image: &[u8], at: usize) -> &[u8]
     requires { at + 6 + length_at image.now at ≤ length image.now }
     ensures { result.now ≡ payload_at image.now at }

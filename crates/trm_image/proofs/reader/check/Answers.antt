@@ -1,11 +1,11 @@
-use mathlib.Core.Path.{◌≡◌, refl, sym, ap, ◌∙◌}
-use mathlib.Core.Bool.{true, false}
+use mathlib.Core.Path.{◌≡◌, sym, ap, ◌∙◌}
+use mathlib.Core.Bool.{true}
 use Prim.Native.Nat.{◌+◌}
 use native.Mathlib.Omega.{arith}
 use lib.Dec.{eqb}
-use borrow.Author.Tests.{lt-ltb, le-ltb}
-use Rattle.trm_image.specs.Records.{length_at, records_of}
-use Rattle.trm_image.specs.Refused.{fault_at, image_fault}
+use borrow.Author.Tests.{le-ltb}
+use Rattle.trm_image.specs.Records.{length_at}
+use Rattle.trm_image.specs.Refused.{fault_at}
 use Rattle.trm_image.proofs.Laws.Numbers.{number_of-some}
 use Rattle.trm_image.proofs.Laws.Walk.{fault-here, fault-later, fault-none, whole_record, image-read}
 use Rattle.trm_image.proofs.reader.check.Goals as goal

@@ -12,9 +12,6 @@ loop-place-init c = refl
 pub returns-then-at-place : goal.returns-then-at-place
 returns-then-at-place c = sym (found_here _ _ _ c.loop-place-test.true c.if-at-place.true) ∙ c.loop-place.invariant
 
-pub loop-place-smaller : goal.loop-place-smaller
-loop-place-smaller c = omega (arith, c.loop-place-test.true)
-
 pub loop-place-preserved : goal.loop-place-preserved
 loop-place-preserved c =
     let next : c.loop-place.place + (6 + c.word_at.result) ≡ c.loop-place.place + 6 + length_at c.args.image.now c.loop-place.place =
