@@ -6,20 +6,21 @@ ghost use Rattle.trm_reference.specs.Geometry.{paper_geometry};
 ghost use Rattle.trm_cache.specs.Cache.{cache};
 ghost use Rattle.trm_core.specs.Record.{whole};
 ghost use Rattle.trm_core.specs.Refusals.{reset_refusal, clock_refusal, run_refusal, look_refusal, copy_refusal, watch_refusal};
-ghost use Rattle.trm_call_refusals.specs.Numbers.{number_of};
+ghost use Rattle.trm_call_refusals.specs.Numbers.{number_in};
 
 use crate::inner::{record_rows, table_rows};
 use crate::refusal::Refusal;
 use trm_core::record::Scalars;
 
 // A reset, which takes only the store.
-pub fn reset_refusal(store: &[u32]) -> Refusal
-    ensures { number_of result ≡ reset_refusal store.now }
+#[tactic(auto, unfolding(trm_core::specs::Refusals::reset_refusal))]
+pub fn reset_refusal(store: &[u32]) -> Result<(), Refusal>
+    ensures { number_in result ≡ reset_refusal store.now }
 {
-    if trm_word::inner::address::store_length_ok(store.len() as u64) {
-        return Refusal::Accepted;
+    if !trm_word::inner::address::store_length_ok(store.len() as u64) {
+        return Err(Refusal::Store);
     }
-    Refusal::Store
+    Ok(())
 }
 
 // One clock.
@@ -33,21 +34,18 @@ pub fn clock_refusal(
     words: &[u32; 128],
     store: &[u32],
     pins: u8,
-) -> Refusal
-    ensures { number_of result ≡ clock_refusal paper_geometry program.now (whole c regs.now
+) -> Result<(), Refusal>
+    ensures { number_in result ≡ clock_refusal paper_geometry program.now (whole c regs.now
         (cache full.now dirty.now block.now words.now)) store.now pins }
 {
-    let refused = record_rows::record_refusal(c, program, regs, full, dirty, block, words, store);
-    if !record_rows::accepted(refused) {
-        return refused;
-    }
+    record_rows::record_refusal(c, program, regs, full, dirty, block, words, store)?;
     if pins > 7 {
-        return Refusal::LineBytes;
+        return Err(Refusal::LineBytes);
     }
     if table_rows::clocks_refused(c.counts.clocks, 1) {
-        return Refusal::Clocks;
+        return Err(Refusal::Clocks);
     }
-    Refusal::Accepted
+    Ok(())
 }
 
 // A run: a line byte and an input word for each clock, and two buffers for the answers.
@@ -64,25 +62,22 @@ pub fn run_refusal(
     inputs: &[u32],
     bytes: &[u8],
     outs: &[u32],
-) -> Refusal
-    ensures { number_of result ≡ run_refusal paper_geometry program.now (whole c regs.now
+) -> Result<(), Refusal>
+    ensures { number_in result ≡ run_refusal paper_geometry program.now (whole c regs.now
         (cache full.now dirty.now block.now words.now))
         store.now pins.now inputs.now bytes.now outs.now }
 {
-    let refused = record_rows::record_refusal(c, program, regs, full, dirty, block, words, store);
-    if !record_rows::accepted(refused) {
-        return refused;
-    }
+    record_rows::record_refusal(c, program, regs, full, dirty, block, words, store)?;
     if table_rows::line_bytes_refused(pins, inputs) {
-        return Refusal::LineBytes;
+        return Err(Refusal::LineBytes);
     }
     if table_rows::buffers_refused(pins, bytes, outs) {
-        return Refusal::Buffers;
+        return Err(Refusal::Buffers);
     }
     if table_rows::clocks_refused(c.counts.clocks, pins.len() as u64) {
-        return Refusal::Clocks;
+        return Err(Refusal::Clocks);
     }
-    Refusal::Accepted
+    Ok(())
 }
 
 // A look at one address.
@@ -96,18 +91,15 @@ pub fn look_refusal(
     words: &[u32; 128],
     store: &[u32],
     address: u32,
-) -> Refusal
-    ensures { number_of result ≡ look_refusal paper_geometry program.now (whole c regs.now
+) -> Result<(), Refusal>
+    ensures { number_in result ≡ look_refusal paper_geometry program.now (whole c regs.now
         (cache full.now dirty.now block.now words.now)) store.now address }
 {
-    let refused = record_rows::record_refusal(c, program, regs, full, dirty, block, words, store);
-    if !record_rows::accepted(refused) {
-        return refused;
-    }
+    record_rows::record_refusal(c, program, regs, full, dirty, block, words, store)?;
     if address > 0xFFBF {
-        return Refusal::Place;
+        return Err(Refusal::Place);
     }
-    Refusal::Accepted
+    Ok(())
 }
 
 // A copy into a buffer.
@@ -121,27 +113,25 @@ pub fn copy_refusal(
     words: &[u32; 128],
     store: &[u32],
     buffer: &[u32],
-) -> Refusal
-    ensures { number_of result ≡ copy_refusal paper_geometry program.now (whole c regs.now
+) -> Result<(), Refusal>
+    ensures { number_in result ≡ copy_refusal paper_geometry program.now (whole c regs.now
         (cache full.now dirty.now block.now words.now))
         store.now buffer.now }
 {
-    let refused = record_rows::record_refusal(c, program, regs, full, dirty, block, words, store);
-    if !record_rows::accepted(refused) {
-        return refused;
-    }
+    record_rows::record_refusal(c, program, regs, full, dirty, block, words, store)?;
     if buffer.len() != store.len() {
-        return Refusal::Buffers;
+        return Err(Refusal::Buffers);
     }
-    Refusal::Accepted
+    Ok(())
 }
 
 // A watch of a device.
-pub fn watch_refusal(device: u32) -> Refusal
-    ensures { number_of result ≡ watch_refusal device }
+#[tactic(auto, unfolding(trm_core::specs::Refusals::watch_refusal))]
+pub fn watch_refusal(device: u32) -> Result<(), Refusal>
+    ensures { number_in result ≡ watch_refusal device }
 {
     if device > 63 {
-        return Refusal::Place;
+        return Err(Refusal::Place);
     }
-    Refusal::Accepted
+    Ok(())
 }

@@ -1,61 +1,60 @@
--- By cases, row after row: refused by rows 3 to 5 (kept-number), else these are passed (passed-rows) and the other rows compute.
+-- By cases, row after row: refused by rows 3 to 5 (kept-number), else the other rows decide (own-rows).
 use mathlib.Core.Path.{sym, ◌∙◌}
+use Rattle.std.proofs.lemmas.Result.{err_from_is_err_and}
 use Rattle.trm_core.specs.Refusals.{count_row, run_rows, run_refusal}
-use Rattle.trm_core.proofs.Laws.Rows.{rows-rest}
-use Rattle.trm_call_refusals.proofs.Laws.{passed-clocks, passed_length, kept-number, passed-rows}
+use Rattle.trm_call_refusals.proofs.Laws.{passed-clocks, passed_length, kept-number, passed-rows, own-rows}
 use Rattle.trm_call_refusals.proofs.inner.call_refusals.run_refusal.Goals as goal
 
-pub returns-then-not-accepted : goal.returns-then-not-accepted
-unfolding run_refusal run_rows count_row
-returns-then-not-accepted c = kept-number _ _ _ _ c.record_refusal-refused.ensures c.accepted.ensures c.if-not-accepted.true
+pub returns-in_err-record_refusal : goal.returns-in_err-record_refusal
+unfolding run_refusal
+returns-in_err-record_refusal c =
+    let p = err_from_is_err_and c.from_residual.result c.from_residual.ensures.1 in
+    rw (p.1, p.2) (kept-number _ _ _ _ _ c.in_err-record_refusal.ensures)
 
 pub returns-then-line_bytes_refused : goal.returns-then-line_bytes_refused
-unfolding run_refusal run_rows count_row
-returns-then-line_bytes_refused c =
-    let passed = passed-rows _ _ _ c.record_refusal-refused.ensures c.accepted.ensures c.if-not-accepted.false in
-    rw (rows-rest _ _ _ _ _ passed, ← c.line_bytes_refused.ensures, c.if-line_bytes_refused.true)
+unfolding run_refusal run_rows
+returns-then-line_bytes_refused c = rw (
+  own-rows _ _ _ _ c.in_ok-record_refusal.ensures,
+  ← c.line_bytes_refused.ensures,
+  c.if-line_bytes_refused.true,
+)
 
 pub returns-then-buffers_refused : goal.returns-then-buffers_refused
-unfolding run_refusal run_rows count_row
-returns-then-buffers_refused c =
-    let passed = passed-rows _ _ _ c.record_refusal-refused.ensures c.accepted.ensures c.if-not-accepted.false in
-    rw (
-      rows-rest _ _ _ _ _ passed,
-      ← c.line_bytes_refused.ensures,
-      c.if-line_bytes_refused.false,
-      ← c.buffers_refused.ensures,
-      c.if-buffers_refused.true,
-    )
+unfolding run_refusal run_rows
+returns-then-buffers_refused c = rw (
+  own-rows _ _ _ _ c.in_ok-record_refusal.ensures,
+  ← c.line_bytes_refused.ensures,
+  c.if-line_bytes_refused.false,
+  ← c.buffers_refused.ensures,
+  c.if-buffers_refused.true,
+)
 
 pub clocks_refused-requires : goal.clocks_refused-requires
-clocks_refused-requires c =
-    let passed = passed-rows _ _ _ c.record_refusal-refused.ensures c.accepted.ensures c.if-not-accepted.false in
-    (passed-clocks _ _ _ passed.rule, passed_length _ _ (sym c.line_bytes_refused.ensures ∙ c.if-line_bytes_refused.false))
+clocks_refused-requires c = (
+  passed-clocks _ _ _ (passed-rows _ _ _ c.in_ok-record_refusal.ensures).rule,
+  passed_length _ _ (sym c.line_bytes_refused.ensures ∙ c.if-line_bytes_refused.false),
+)
 
 pub returns-then-clocks_refused : goal.returns-then-clocks_refused
 unfolding run_refusal run_rows count_row
-returns-then-clocks_refused c =
-    let passed = passed-rows _ _ _ c.record_refusal-refused.ensures c.accepted.ensures c.if-not-accepted.false in
-    rw (
-      rows-rest _ _ _ _ _ passed,
-      ← c.line_bytes_refused.ensures,
-      c.if-line_bytes_refused.false,
-      ← c.buffers_refused.ensures,
-      c.if-buffers_refused.false,
-      ← c.clocks_refused.ensures,
-      c.if-clocks_refused.true,
-    )
+returns-then-clocks_refused c = rw (
+  own-rows _ _ _ _ c.in_ok-record_refusal.ensures,
+  ← c.line_bytes_refused.ensures,
+  c.if-line_bytes_refused.false,
+  ← c.buffers_refused.ensures,
+  c.if-buffers_refused.false,
+  ← c.clocks_refused.ensures,
+  c.if-clocks_refused.true,
+)
 
 pub returns : goal.returns
 unfolding run_refusal run_rows count_row
-returns c =
-    let passed = passed-rows _ _ _ c.record_refusal-refused.ensures c.accepted.ensures c.if-not-accepted.false in
-    rw (
-      rows-rest _ _ _ _ _ passed,
-      ← c.line_bytes_refused.ensures,
-      c.if-line_bytes_refused.false,
-      ← c.buffers_refused.ensures,
-      c.if-buffers_refused.false,
-      ← c.clocks_refused.ensures,
-      c.if-clocks_refused.false,
-    )
+returns c = rw (
+  own-rows _ _ _ _ c.in_ok-record_refusal.ensures,
+  ← c.line_bytes_refused.ensures,
+  c.if-line_bytes_refused.false,
+  ← c.buffers_refused.ensures,
+  c.if-buffers_refused.false,
+  ← c.clocks_refused.ensures,
+  c.if-clocks_refused.false,
+)
