@@ -1,7 +1,7 @@
 -- Laws of the tests over a list, what a passed row implies, and the number of a call by its first rows.
 -- Idea: the list from index i on is its i-th number, then the rest; the other laws are by cases of a Bool.
 --   all_more, all-bad, all_end, most-more, most-end   the tests over a list
---   passed_store, passed-clocks, passed_length   what a passed row implies        code-zero, kept-number, passed-rows   the number
+--   passed_store, passed-clocks, passed_length   what a passed row implies        code-zero, kept_number, passed-rows   the number
 use Prim.Native.Nat.{ℕ, zero, suc, max, ◌^◌, ◌≤◌, ◌<◌}
 use mathlib.Core.Path.{◌≡◌, refl, sym, ◌∙◌}
 use mathlib.Core.Bool.{Bool, true, false, cond, not, ◌&&◌, ◌||◌, and-true, and-false}
@@ -113,18 +113,18 @@ refused Clocks = refl
 refused Place = refl
 
 -- a call refused by rows 3, 4 or 5 has that row's number
-pub kept-number : (p : List ℕ) (m : Machine) (s : List ℕ) (rest : ℕ) (r : Refusal) → number_of r ≡ record_rows paper_geometry p m s 0
+pub kept_number : (p : List ℕ) (m : Machine) (s : List ℕ) (rest : ℕ) (r : Refusal) → number_of r ≡ record_rows paper_geometry p m s 0
     → number_of r ≡ record_rows paper_geometry p m s rest
-kept-number p m s rest r e = e ∙ rows-kept paper_geometry p m s rest (test_at (sym e) 0 ∙ refused r)
+kept_number p m s rest r e = e ∙ rows-kept paper_geometry p m s rest (test_at (sym e) 0 ∙ refused r)
 
 -- otherwise these rows are passed
 pub passed-rows : (p : List ℕ) (m : Machine) (s : List ℕ) → 0 ≡ record_rows paper_geometry p m s 0 → Passed paper_geometry p m s
 passed-rows p m s e = (rows-passed paper_geometry p m s 0 (sym e)).0
 
 -- and the number is that of the call's own rows
-pub own-rows : (p : List ℕ) (m : Machine) (s : List ℕ) (rest : ℕ) → 0 ≡ record_rows paper_geometry p m s 0
+pub own_rows : (p : List ℕ) (m : Machine) (s : List ℕ) (rest : ℕ) → 0 ≡ record_rows paper_geometry p m s 0
     → record_rows paper_geometry p m s rest ≡ rest
-own-rows p m s rest e = rows-rest _ _ _ _ _ (passed-rows p m s e)
+own_rows p m s rest e = rows-rest _ _ _ _ _ (passed-rows p m s e)
 
 -- a reset that is not refused has a store below 2^32 words
 pub reset-short : (s : List ℕ) → eqb (reset_refusal s) 0 ≡ true → length s < 2 ^ 32

@@ -81,6 +81,7 @@ pub fn run_refusal(
 }
 
 // A look at one address.
+#[tactic(auto, using(crate::proofs::Laws::kept_number, crate::proofs::Laws::own_rows), unfolding(trm_core::specs::Refusals::look_refusal))]
 pub fn look_refusal(
     c: Scalars,
     program: &[u32],
@@ -103,6 +104,7 @@ pub fn look_refusal(
 }
 
 // A copy into a buffer.
+#[tactic(auto, using(crate::proofs::Laws::kept_number, crate::proofs::Laws::own_rows), unfolding(trm_core::specs::Refusals::copy_refusal))]
 pub fn copy_refusal(
     c: Scalars,
     program: &[u32],
