@@ -1,7 +1,7 @@
 -- Laws of the tests over a list, what a passed row implies, and the number of a call by its first rows.
--- Idea: the list from index i on is its i-th number, then the rest; the other laws are by cases of a Bool.
---   all_more, all-bad, all_end, most-more, most-end   the tests over a list
---   passed_store, passed-clocks, passed_length   what a passed row implies        code-zero, kept_number, passed-rows   the number
+-- Idea: the tests over a list by induction; the other laws are by cases of a Bool.
+--   all-by, most-is   the tests over a list        passed_store, passed_length   what a passed row implies
+--   rows   a call by its first rows: refused, passed, and then its clock count        reset_short   a reset
 use Prim.Native.Nat.{ℕ, zero, suc, max, ◌^◌, ◌≤◌, ◌<◌}
 use mathlib.Core.Path.{◌≡◌, refl, sym, ◌∙◌}
 use mathlib.Core.Bool.{Bool, true, false, cond, not, ◌&&◌, ◌||◌, and-true, and-false}
@@ -79,7 +79,7 @@ pub passed_store : (n size : ℕ) → (store_length_ok n && eqb n size) ≡ true
 passed_store n size t = both (store_length_ok n) (eqb n size) (λ p _. p) t
 
 -- a record that passes has a clock count of 32 bits
-pub passed-clocks : (p : List ℕ) (n : ℕ) (m : Machine) → record_ok paper_geometry p n m ≡ true → m.scalars.counts.clocks < 2 ^ 32
+passed-clocks : (p : List ℕ) (n : ℕ) (m : Machine) → record_ok paper_geometry p n m ≡ true → m.scalars.counts.clocks < 2 ^ 32
 unfolding record_ok
 passed-clocks p n m t =
     passed-counts m.scalars.counts
@@ -118,7 +118,7 @@ pub kept_number : (p : List ℕ) (m : Machine) (s : List ℕ) (rest : ℕ) (r : 
 kept_number p m s rest r e = e ∙ rows-kept paper_geometry p m s rest (test_at (sym e) 0 ∙ refused r)
 
 -- otherwise these rows are passed
-pub passed-rows : (p : List ℕ) (m : Machine) (s : List ℕ) → 0 ≡ record_rows paper_geometry p m s 0 → Passed paper_geometry p m s
+passed-rows : (p : List ℕ) (m : Machine) (s : List ℕ) → 0 ≡ record_rows paper_geometry p m s 0 → Passed paper_geometry p m s
 passed-rows p m s e = (rows-passed paper_geometry p m s 0 (sym e)).0
 
 -- and the number is that of the call's own rows
@@ -126,11 +126,18 @@ pub own_rows : (p : List ℕ) (m : Machine) (s : List ℕ) (rest : ℕ) → 0 �
     → record_rows paper_geometry p m s rest ≡ rest
 own_rows p m s rest e = rows-rest _ _ _ _ _ (passed-rows p m s e)
 
+-- a call that passes them has a record with a clock count of 32 bits
+pub counted : (p : List ℕ) (m : Machine) (s : List ℕ) → 0 ≡ record_rows paper_geometry p m s 0 → m.scalars.counts.clocks < 2 ^ 32
+counted p m s e = passed-clocks p (length s) m (passed-rows p m s e).rule
+
+-- the laws of the first rows
+pub ruleset rows = (kept_number, own_rows, counted)
+
 -- a reset that is not refused has a store below 2^32 words
-pub reset-short : (s : List ℕ) → eqb (reset_refusal s) 0 ≡ true → length s < 2 ^ 32
+pub reset_short : (s : List ℕ) → 0 ≡ reset_refusal s → length s < 2 ^ 32
 unfolding reset_refusal
-reset-short s = go (store_length_ok (length s)) refl
+reset_short s = go (store_length_ok (length s)) refl
   where
-    go : (t : Bool) → store_length_ok (length s) ≡ t → eqb (cond t 0 4) 0 ≡ true → length s < 2 ^ 32
+    go : (t : Bool) → store_length_ok (length s) ≡ t → ◌≡◌ {A = ℕ} 0 (cond t 0 4) → length s < 2 ^ 32
     go true q e = omega (arith, legal_small (length s) q)
-    go false q e = clash e
+    go false q e = absurd (omega arith)

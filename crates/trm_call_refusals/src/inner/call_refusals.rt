@@ -24,6 +24,7 @@ pub fn reset_refusal(store: &[u32]) -> Result<(), Refusal>
 }
 
 // One clock.
+#[tactic(auto, using(crate::proofs::Laws::rows), unfolding(trm_core::specs::Refusals::clock_refusal, trm_core::specs::Refusals::clock_rows, trm_core::specs::Refusals::count_row))]
 pub fn clock_refusal(
     c: Scalars,
     program: &[u32],
@@ -49,6 +50,7 @@ pub fn clock_refusal(
 }
 
 // A run: a line byte and an input word for each clock, and two buffers for the answers.
+#[tactic(auto, using(crate::proofs::Laws::rows, crate::proofs::Laws::passed_length), unfolding(trm_core::specs::Refusals::run_refusal, trm_core::specs::Refusals::run_rows, trm_core::specs::Refusals::count_row))]
 pub fn run_refusal(
     c: Scalars,
     program: &[u32],
@@ -81,7 +83,7 @@ pub fn run_refusal(
 }
 
 // A look at one address.
-#[tactic(auto, using(crate::proofs::Laws::kept_number, crate::proofs::Laws::own_rows), unfolding(trm_core::specs::Refusals::look_refusal))]
+#[tactic(auto, using(crate::proofs::Laws::rows), unfolding(trm_core::specs::Refusals::look_refusal))]
 pub fn look_refusal(
     c: Scalars,
     program: &[u32],
@@ -104,7 +106,7 @@ pub fn look_refusal(
 }
 
 // A copy into a buffer.
-#[tactic(auto, using(crate::proofs::Laws::kept_number, crate::proofs::Laws::own_rows), unfolding(trm_core::specs::Refusals::copy_refusal))]
+#[tactic(auto, using(crate::proofs::Laws::rows), unfolding(trm_core::specs::Refusals::copy_refusal))]
 pub fn copy_refusal(
     c: Scalars,
     program: &[u32],
