@@ -2,7 +2,7 @@
 -- Idea: the tests over a list by induction; the other laws are by cases of a Bool.
 --   all-by, most-is   the tests over a list        passed_store, passed_length   what a passed row implies
 --   rows   a call by its first rows: refused, passed, and then its clock count        reset_short   a reset
-use Prim.Native.Nat.{ℕ, zero, suc, max, ◌^◌, ◌≤◌, ◌<◌}
+use Prim.Native.Nat.{ℕ, zero, suc, max, ◌+◌, ◌^◌, ◌≤◌, ◌<◌}
 use mathlib.Core.Path.{◌≡◌, refl, sym, ◌∙◌}
 use mathlib.Core.Bool.{Bool, true, false, cond, not, ◌&&◌, ◌||◌, and-true, and-false}
 use mathlib.Core.List.{List, [], ◌∷◌}
@@ -19,7 +19,7 @@ use Rattle.trm_reference.specs.Visible.{cache_on, word_at}
 use Rattle.trm_core.specs.declared.record.Counts.{Counts}
 use Rattle.trm_core.specs.Record.{Machine, visible_of, cache_of}
 use Rattle.trm_core.specs.Rule.{widths_ok, phase_ok, registers_ok, counts_ok, lines_ok, record_ok}
-use Rattle.trm_core.specs.Refusals.{all_at_most, line_bytes_refused, record_rows, reset_refusal}
+use Rattle.trm_core.specs.Refusals.{all_at_most, store_ok, line_bytes_refused, count_row, clock_rows, run_rows, record_rows, reset_refusal}
 use Rattle.trm_core.proofs.Laws.Fit.{legal_small}
 use Rattle.trm_core.proofs.Laws.Rows.{Passed, rows-passed, rows-kept, rows-rest}
 use Rattle.trm_call_refusals.specs.declared.refusal.Refusal.{Refusal}
@@ -130,8 +130,24 @@ own_rows p m s rest e = rows-rest _ _ _ _ _ (passed-rows p m s e)
 pub counted : (p : List ℕ) (m : Machine) (s : List ℕ) → 0 ≡ record_rows paper_geometry p m s 0 → m.scalars.counts.clocks < 2 ^ 32
 counted p m s e = passed-clocks p (length s) m (passed-rows p m s e).rule
 
--- the laws of the first rows
-pub ruleset rows = (kept_number, own_rows, counted)
+-- the own rows of a clock and of a run, and row 4, as tests
+pub clock_rows_are : (k l : ℕ) → clock_rows k l ≡ cond (ltb 7 l) 6 (cond (ltb 4294967295 (k + 1)) 8 0)
+unfolding clock_rows count_row
+clock_rows_are k l = refl
+
+pub run_rows_are : (k : ℕ) (ls is bs ws : List ℕ) → run_rows k ls is bs ws
+    ≡ cond (line_bytes_refused ls is) 6 (cond (not (eqb (length bs) (length ls)) || not (eqb (length ws) (length ls))) 7
+    (cond (ltb 4294967295 (k + length ls)) 8 0))
+unfolding run_rows count_row
+run_rows_are k ls is bs ws = refl
+
+pub store_ok_is : (m : Machine) (s : List ℕ) → store_ok m s ≡ (store_length_ok (length s) && eqb (length s) m.scalars.size)
+unfolding store_ok
+store_ok_is m s = refl
+
+-- the laws of rows 3 to 5, and of the rows of a call
+pub ruleset first_rows = (store_ok_is, passed_store)
+pub ruleset rows = (kept_number, own_rows, counted, clock_rows_are, run_rows_are, passed_length)
 
 -- a reset that is not refused has a store below 2^32 words
 pub reset_short : (s : List ℕ) → 0 ≡ reset_refusal s → length s < 2 ^ 32

@@ -24,7 +24,7 @@ pub fn reset_refusal(store: &[u32]) -> Result<(), Refusal>
 }
 
 // One clock.
-#[tactic(auto, using(crate::proofs::Laws::rows), unfolding(trm_core::specs::Refusals::clock_refusal, trm_core::specs::Refusals::clock_rows, trm_core::specs::Refusals::count_row))]
+#[tactic(auto, using(crate::proofs::Laws::rows), unfolding(trm_core::specs::Refusals::clock_refusal))]
 pub fn clock_refusal(
     c: Scalars,
     program: &[u32],
@@ -50,7 +50,7 @@ pub fn clock_refusal(
 }
 
 // A run: a line byte and an input word for each clock, and two buffers for the answers.
-#[tactic(auto, using(crate::proofs::Laws::rows, crate::proofs::Laws::passed_length), unfolding(trm_core::specs::Refusals::run_refusal, trm_core::specs::Refusals::run_rows, trm_core::specs::Refusals::count_row))]
+#[tactic(auto, using(crate::proofs::Laws::rows), unfolding(trm_core::specs::Refusals::run_refusal))]
 pub fn run_refusal(
     c: Scalars,
     program: &[u32],

@@ -12,7 +12,7 @@ use crate::refusal::Refusal;
 use trm_core::record::Scalars;
 
 // Row 3 the program, row 4 the store, row 5 the record.
-#[tactic(auto, using(crate::proofs::Laws::passed_store), unfolding(trm_core::specs::Refusals::record_rows, trm_core::specs::Refusals::store_ok))]
+#[tactic(auto, using(crate::proofs::Laws::first_rows), unfolding(trm_core::specs::Refusals::record_rows))]
 pub fn record_refusal(
     c: Scalars,
     program: &[u32],
