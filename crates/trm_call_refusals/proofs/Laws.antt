@@ -103,7 +103,7 @@ passed_length line_bytes inputs t =
     go false b q d e = clash (sym e)
 
 -- a refusal's number is not 0
-refused : (r : Refusal) → eqb (number_of r) 0 ≡ false
+pub refused : (r : Refusal) → eqb (number_of r) 0 ≡ false
 refused Program = refl
 refused Store = refl
 refused Record = refl
