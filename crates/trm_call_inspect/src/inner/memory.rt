@@ -9,6 +9,7 @@ ghost use Rattle.trm_cache.specs.Cache.{cache, view, copy_of};
 use trm_cache::inner::cache_lines;
 
 // The word at an address, taken mod the store's length.
+#[tactic(auto, using(crate::proofs::Laws::Accepted::legal_length))]
 pub fn look(
     full: &[u8; 16],
     dirty: &[u8; 16],
@@ -26,6 +27,7 @@ pub fn look(
 }
 
 // All words, in address order.
+#[tactic(auto, using(crate::proofs::Laws::Loops::copying))]
 pub fn copy(
     full: &[u8; 16],
     dirty: &[u8; 16],
@@ -39,9 +41,7 @@ pub fn copy(
         ≡ copy_of paper_geometry (cache full.now dirty.now block.now words.now)
         store.now }
 {
-    let mut i: usize = 0;
-    while i < store.len() {
+    for i in 0..store.len() {
         buffer[i] = cache_lines::peek(full, dirty, block, words, store, i);
-        i += 1;
     }
 }
