@@ -1,6 +1,6 @@
 -- Laws of the tests over a list, what a passed row implies, and the number of a call by its first rows.
 -- Idea: the tests over a list by induction; the other laws are by cases of a Bool.
---   all-by, most-is   the tests over a list        passed_store, passed_length   what a passed row implies
+--   all-by, most-is   the tests over a list        passed_store, passed_clocks, passed_length   what a passed row implies
 --   rows   a call by its first rows: refused, passed, and then its clock count        reset_short   a reset
 use Prim.Native.Nat.{ℕ, zero, suc, max, ◌+◌, ◌^◌, ◌≤◌, ◌<◌}
 use mathlib.Core.Path.{◌≡◌, refl, sym, ◌∙◌}
@@ -79,9 +79,9 @@ pub passed_store : (n size : ℕ) → (store_length_ok n && eqb n size) ≡ true
 passed_store n size t = both (store_length_ok n) (eqb n size) (λ p _. p) t
 
 -- a record that passes has a clock count of 32 bits
-passed-clocks : (p : List ℕ) (n : ℕ) (m : Machine) → record_ok paper_geometry p n m ≡ true → m.scalars.counts.clocks < 2 ^ 32
+pub passed_clocks : (p : List ℕ) (n : ℕ) (m : Machine) → record_ok paper_geometry p n m ≡ true → m.scalars.counts.clocks < 2 ^ 32
 unfolding record_ok
-passed-clocks p n m t =
+passed_clocks p n m t =
     passed-counts m.scalars.counts
     (fourth
     (widths_ok (visible_of m))
@@ -92,10 +92,11 @@ passed-clocks p n m t =
     t)
 
 -- a run that passes has at most 65,536 clocks
-pub passed_length : (line_bytes inputs : List ℕ) → line_bytes_refused line_bytes inputs ≡ false → length line_bytes < 2 ^ 32
-unfolding line_bytes_refused
+pub passed_length : (line_bytes : List ℕ) (inputs : ℕ)
+    → (not (eqb (length line_bytes) inputs) || ltb 65536 (length line_bytes) || not (all_at_most 7 line_bytes)) ≡ false
+    → length line_bytes < 2 ^ 32
 passed_length line_bytes inputs t =
-    go (eqb (length line_bytes) (length inputs)) (ltb 65536 (length line_bytes)) refl (not (all_at_most 7 line_bytes)) t
+    go (eqb (length line_bytes) inputs) (ltb 65536 (length line_bytes)) refl (not (all_at_most 7 line_bytes)) t
   where
     go : (a b : Bool) → ltb 65536 (length line_bytes) ≡ b → (d : Bool) → (not a || b || d) ≡ false → length line_bytes < 2 ^ 32
     go true true q d e = clash (sym e)
@@ -128,7 +129,7 @@ own_rows p m s rest e = rows-rest _ _ _ _ _ (passed-rows p m s e)
 
 -- a call that passes them has a record with a clock count of 32 bits
 pub counted : (p : List ℕ) (m : Machine) (s : List ℕ) → 0 ≡ record_rows paper_geometry p m s 0 → m.scalars.counts.clocks < 2 ^ 32
-counted p m s e = passed-clocks p (length s) m (passed-rows p m s e).rule
+counted p m s e = passed_clocks p (length s) m (passed-rows p m s e).rule
 
 -- the own rows of a clock and of a run, and row 4, as tests
 pub clock_rows_are : (k l : ℕ) → clock_rows k l ≡ cond (ltb 7 l) 6 (cond (ltb 4294967295 (k + 1)) 8 0)
@@ -136,9 +137,10 @@ unfolding clock_rows count_row
 clock_rows_are k l = refl
 
 pub run_rows_are : (k : ℕ) (ls is bs ws : List ℕ) → run_rows k ls is bs ws
-    ≡ cond (line_bytes_refused ls is) 6 (cond (not (eqb (length bs) (length ls)) || not (eqb (length ws) (length ls))) 7
+    ≡ cond (not (eqb (length ls) (length is)) || ltb 65536 (length ls) || not (all_at_most 7 ls)) 6
+    (cond (not (eqb (length bs) (length ls)) || not (eqb (length ws) (length ls))) 7
     (cond (ltb 4294967295 (k + length ls)) 8 0))
-unfolding run_rows count_row
+unfolding run_rows line_bytes_refused count_row
 run_rows_are k ls is bs ws = refl
 
 pub store_ok_is : (m : Machine) (s : List ℕ) → store_ok m s ≡ (store_length_ok (length s) && eqb (length s) m.scalars.size)
@@ -147,6 +149,7 @@ store_ok_is m s = refl
 
 -- the laws of rows 3 to 5, and of the rows of a call
 pub ruleset first_rows = (store_ok_is, passed_store)
+
 pub ruleset rows = (kept_number, own_rows, counted, clock_rows_are, run_rows_are, passed_length)
 
 -- a reset that is not refused has a store below 2^32 words

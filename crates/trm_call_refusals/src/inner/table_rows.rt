@@ -3,7 +3,7 @@
 // The test of program words stops at the first that fails (D-59).
 ghost use Rattle.std.specs.Prelude.{◌≡◌, not, ◌&&◌, ◌||◌, ◌+◌, ◌^◌, ◌<◌, length, eqb, ltb};
 ghost use Rattle.trm_word.specs.Address.{store_length_ok};
-ghost use Rattle.trm_core.specs.Refusals.{all_at_most, program_ok, line_bytes_refused};
+ghost use Rattle.trm_core.specs.Refusals.{all_at_most, program_ok};
 
 // Whether no word is above the limit.
 pub fn all_at_most_words(list: &[u32], limit: u32) -> bool
@@ -35,10 +35,10 @@ pub fn store_ok(size: u32, store: &[u32]) -> bool
     trm_word::inner::address::store_length_ok(n) && n == size as u64
 }
 
-// Row 6: "other length than the input words, over 65,536, or a byte above 7".
-#[tactic(auto, unfolding(trm_core::specs::Refusals::line_bytes_refused))]
-pub fn line_bytes_refused(pins: &[u8], inputs: &[u32]) -> bool
-    ensures { result ≡ line_bytes_refused pins.now inputs.now }
+// Row 6: "other length than the input words, over 65,536, or a byte above 7". The inputs of a clock are a word or, on the board, a byte.
+pub fn line_bytes_refused<T>(pins: &[u8], inputs: &[T]) -> bool
+    ensures { result ≡ (not (eqb (length pins.now) (length inputs.now)) || ltb 65536 (length pins.now)
+        || not (all_at_most 7 pins.now)) }
 {
     pins.len() != inputs.len() || pins.len() > 65536 || !all_at_most_bytes(pins, 7)
 }
