@@ -3,15 +3,13 @@
 -- Paper: "Where calls are turned down"; "The clock call takes the record and returns it".
 --   ResetNumbered, ClockNumbered, RunNumbered, LookNumbered, CopyNumbered, WatchNumbered, ImageNumbered   the contract of a call; r: result
 --   with_record   the lent clock's answer together with its record        value_of   a sighting as the watch returns it
-use Rattle.std.specs.Prelude.{ℕ, ◌+◌, ◌≡◌, cond, List, length, take, drop, eqb}
+use Rattle.std.specs.Prelude.{ℕ, ◌+◌, ◌≡◌, cond, List, length, take, drop, eqb, Option, Some, None}
 use Rattle.trm_reference.specs.Geometry.{paper_geometry}
 use Rattle.trm_reference.specs.Access.{Answer}
 use Rattle.trm_reference.specs.Trace.{After}
 use Rattle.trm_core.specs.Record.{Lent}
 use Rattle.trm_core.specs.Refusals.{reset_refusal, clock_refusal, run_refusal, look_refusal, copy_refusal, watch_refusal}
 use Rattle.trm_core.specs.Observe.{SightingHolds}
-use Rattle.trm_core.specs.declared.sighting.Sighting.{Sighting}
-use Rattle.trm_core.specs.declared.sighting.Sighting.TheVariants.{Clock, Nowhere}
 use Rattle.trm_core.specs.Run.{Ran}
 use Rattle.trm_run_machine.specs.declared.machine.Machine.{Machine}
 use Rattle.trm_run_machine.specs.Machine.{record_of, lent, parts}
@@ -74,16 +72,16 @@ pub record CopyNumbered (m : Machine) (p s b : List ℕ) (r : ℕ) (b' : List �
   pub buffer : b' ≡ copy_gives p (lent m s) b
 
 -- a clock is found, or not
-abbrev pub value_of : ℕ → Sighting → WatchAnswer
-value_of number (Clock k) = record { number = number; found = 1; clock = k }
-value_of number Nowhere = record { number = number; found = 0; clock = 0 }
+abbrev pub value_of : ℕ → Option ℕ → WatchAnswer
+value_of number (Some k) = record { number = number; found = 1; clock = k }
+value_of number None = record { number = number; found = 0; clock = 0 }
 
 -- the answer shows some sighting; which of several clocks is free
 pub record WatchNumbered (bytes : List ℕ) (device : ℕ) (r : WatchAnswer) : Type 0 where
-  pub sighting : Sighting
+  pub sighting : Option ℕ
   pub answer : r ≡ value_of (watch_refusal device) sighting
   pub accepted : watch_refusal device ≡ 0 → SightingHolds bytes device sighting
-  pub refused : watch_refusal device ≡ 9 → sighting ≡ Nowhere
+  pub refused : watch_refusal device ≡ 9 → sighting ≡ None
 
 -- n is the store's length in words
 pub record ImageNumbered (n : ℕ) (image : List ℕ) (r : ImageAnswer) : Type 0 where

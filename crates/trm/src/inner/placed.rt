@@ -6,7 +6,7 @@ ghost use Rattle.trm_core.specs.Claims.{Shaped};
 ghost use Rattle.trm_run_machine.specs.Machine.{record_of, parts};
 ghost use Rattle.trm.specs.Promises.{ClockNumbered, with_parts};
 
-use trm_call_refusals::inner::{call_refusals, record_rows, refusal_number};
+use trm_call_refusals::inner::call_refusals;
 use trm_core::record::Scalars;
 use trm_run_machine::inner::one_clock;
 
@@ -20,6 +20,7 @@ pub struct Placed {
     pub finished: u64,
 }
 
+#[tactic(auto, using(trm_call_refusals::proofs::Laws::refused), unfolding(trm_calls::specs::Promises::clock_gives))]
 pub fn clock(
     c: Scalars,
     program: &[u32],
@@ -39,14 +40,12 @@ pub fn clock(
         (with_parts result regs.new full.new dirty.new block.new words.new)
         store.new }
 {
-    let refused = call_refusals::clock_refusal(
+    if let Err(refused) = call_refusals::clock_refusal(
         c, program, regs, full, dirty, block, words, store, pins,
-    );
-    let n = refusal_number::number_of(refused);
-    if !record_rows::accepted(refused) {
+    ) {
         return Placed {
             scalars: c,
-            number: n,
+            number: u32::from(refused),
             byte: 0,
             word: 0,
             finished: 0,
@@ -58,7 +57,7 @@ pub fn clock(
     let after = t.scalars;
     Placed {
         scalars: after,
-        number: n,
+        number: 0,
         byte: t.byte,
         word: t.word,
         finished: t.finished,
