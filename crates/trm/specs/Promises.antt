@@ -3,7 +3,7 @@
 -- Paper: "Where calls are turned down"; "The clock call takes the record and returns it".
 --   ResetNumbered, ClockNumbered, RunNumbered, LookNumbered, CopyNumbered, WatchNumbered, ImageNumbered   the contract of a call; r: result
 --   with_record   the lent clock's answer together with its record        value_of   a sighting as the watch returns it
-use Rattle.std.specs.Prelude.{ℕ, ◌+◌, ◌≡◌, cond, List, length, take, drop, eqb, Option, Some, None}
+use Rattle.std.specs.Prelude.{ℕ, ◌+◌, ◌≡◌, cond, List, length, take, drop, eqb, Option, Some, None, Result, Ok, Err}
 use Rattle.trm_reference.specs.Geometry.{paper_geometry}
 use Rattle.trm_reference.specs.Access.{Answer}
 use Rattle.trm_reference.specs.Trace.{After}
@@ -11,6 +11,10 @@ use Rattle.trm_core.specs.Record.{Lent}
 use Rattle.trm_core.specs.Refusals.{reset_refusal, clock_refusal, run_refusal, look_refusal, copy_refusal, watch_refusal}
 use Rattle.trm_core.specs.Observe.{SightingHolds}
 use Rattle.trm_core.specs.Run.{Ran}
+use Rattle.trm_core.specs.declared.record.Scalars.{Scalars}
+use Rattle.trm_call_refusals.specs.declared.refusal.Refusal.{Refusal}
+use Rattle.trm_call_refusals.specs.Numbers.{number_of}
+use Rattle.trm_clock_laws.specs.declared.inner.outcome.Clocked.{Clocked}
 use Rattle.trm_run_machine.specs.declared.machine.Machine.{Machine}
 use Rattle.trm_run_machine.specs.Machine.{record_of, lent, parts}
 use Rattle.trm_calls.specs.Promises.{pins, reset_gives, clock_gives, run_gives}
@@ -21,7 +25,6 @@ use Rattle.trm.specs.declared.exported_answers.ResetAnswer.{ResetAnswer}
 use Rattle.trm.specs.declared.exported_answers.ClockAnswer.{ClockAnswer}
 use Rattle.trm.specs.declared.exported_answers.LentAnswer.{LentAnswer}
 use Rattle.trm.specs.declared.exported_answers.RunAnswer.{RunAnswer}
-use Rattle.trm.specs.declared.inner.placed.Placed.{Placed}
 use Rattle.trm.specs.declared.exported_answers.LookAnswer.{LookAnswer}
 use Rattle.trm.specs.declared.exported_answers.WatchAnswer.{WatchAnswer}
 use Rattle.trm.specs.declared.image_calls.ImageAnswer.{ImageAnswer}
@@ -36,16 +39,12 @@ abbrev pub with_record : Machine → LentAnswer → ClockAnswer
 with_record m r =
     record { machine = m; number = r.number; byte = r.byte; word = r.word; finished = r.finished }
 
--- the answer of a clock on the parts of a record, together with the arrays after it
-abbrev pub with_parts : Placed → List ℕ → List ℕ → List ℕ → List ℕ → List ℕ → ClockAnswer
-with_parts r rs f d b ws =
-    record {
-      machine = parts r.scalars rs f d b ws;
-      number = r.number;
-      byte = r.byte;
-      word = r.word;
-      finished = r.finished;
-    }
+-- the answer of a clock on the parts of a record, c being its scalars before, together with the arrays after it
+abbrev pub with_parts : Scalars → Result Clocked Refusal → List ℕ → List ℕ → List ℕ → List ℕ → List ℕ → ClockAnswer
+with_parts c (Ok t) rs f d b ws =
+    record { machine = parts t.scalars rs f d b ws; number = 0; byte = t.byte; word = t.word; finished = t.finished }
+with_parts c (Err e) rs f d b ws =
+    record { machine = parts c rs f d b ws; number = number_of e; byte = 0; word = 0; finished = 0 }
 
 abbrev pub ran : RunAnswer → List ℕ → List ℕ → List ℕ → Ran
 ran r s bytes words =

@@ -1,7 +1,8 @@
 // Reset, clock and run of the board, for any caller and any input.
 // Request A1: "Each of its clocks takes the serial line, the switches, interrupt 1 and stall"; "a line joined to itself".
 // The level sent in a clock is the line of that very clock: a caller who feeds back a returned level is one clock late, so a clock and a
-// run are told whether the line is `joined` to itself. Arguments are checked first; nothing is written unless the call is accepted.
+// run are told whether the line is `joined` to itself. Arguments are checked first; nothing is written unless the call is accepted. The
+// buffers of a run are apart, as the C interface lends them.
 ghost use Rattle.std.specs.Prelude.{◌≡◌};
 ghost use Rattle.trm_board.specs.Board.{devices_reset};
 ghost use Rattle.trm_board_calls.specs.Promises.{ResetHolds, ClockHolds, RunHolds};

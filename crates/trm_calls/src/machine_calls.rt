@@ -1,6 +1,6 @@
 // Reset, clock and run, for any caller and any input.
 // Paper: "Checks go down the table .. It returns the number only and writes nothing".
-// Arguments are checked first; nothing is written unless the call is accepted.
+// Arguments are checked first; nothing is written unless the call is accepted. A run takes its buffers one by one, as C lends them.
 ghost use Rattle.trm_calls.specs.Promises.{ResetHolds, ClockHolds, RunHolds};
 
 use crate::call_answers::Run;

@@ -1,4 +1,4 @@
-// One clock on the parts of a record, in place: checks the arguments and returns the paper's refusal number. The lent entry calls it.
+// One clock on the parts of a record, in place: checks the arguments first. The lent entry calls it.
 // Paper: "Later a second entry lends the record itself for one clock, with the same outcome".
 // The scalars go by value. The arrays must have the lengths of their types, which the lent entry knows from the record's type (D-31).
 ghost use Rattle.trm_reference.specs.Geometry.{paper_geometry};
@@ -7,19 +7,12 @@ ghost use Rattle.trm_run_machine.specs.Machine.{record_of, parts};
 ghost use Rattle.trm.specs.Promises.{ClockNumbered, with_parts};
 
 use trm_call_refusals::inner::call_refusals;
+use trm_call_refusals::refusal::Refusal;
+use trm_clock_laws::inner::outcome::Clocked;
 use trm_core::record::Scalars;
 use trm_run_machine::inner::one_clock;
 
-// The scalars after the clock, and its answer.
-#[derive(Clone, Copy)]
-pub struct Placed {
-    pub scalars: Scalars,
-    pub number: u32,
-    pub byte: u8,
-    pub word: u32,
-    pub finished: u64,
-}
-
+// Returns the scalars after the clock, and its answer; a refused clock changes nothing.
 #[tactic(auto, using(trm_call_refusals::proofs::Laws::refused), unfolding(trm_calls::specs::Promises::clock_gives))]
 pub fn clock(
     c: Scalars,
@@ -32,34 +25,16 @@ pub fn clock(
     store: &mut [u32],
     pins: u8,
     input: u32,
-) -> Placed
+) -> Result<Clocked, Refusal>
     requires { Shaped paper_geometry (record_of (parts c regs.old full.old dirty.old block.old words.old)) }
     ensures { ClockNumbered
         (parts c regs.old full.old dirty.old block.old words.old)
         program.now store.old pins input
-        (with_parts result regs.new full.new dirty.new block.new words.new)
+        (with_parts c result regs.new full.new dirty.new block.new words.new)
         store.new }
 {
-    if let Err(refused) = call_refusals::clock_refusal(
-        c, program, regs, full, dirty, block, words, store, pins,
-    ) {
-        return Placed {
-            scalars: c,
-            number: u32::from(refused),
-            byte: 0,
-            word: 0,
-            finished: 0,
-        };
-    }
-    let t = one_clock::one_clock(
+    call_refusals::clock_refusal(c, program, regs, full, dirty, block, words, store, pins)?;
+    Ok(one_clock::one_clock(
         c, program, regs, full, dirty, block, words, store, pins, input,
-    );
-    let after = t.scalars;
-    Placed {
-        scalars: after,
-        number: 0,
-        byte: t.byte,
-        word: t.word,
-        finished: t.finished,
-    }
+    ))
 }

@@ -32,7 +32,8 @@ use Rattle.trm_agreement.proofs.Laws.Witness.{back, holding, lending}
 
 -- a refusal from its number
 refusal_of : ℕ → Refusal
-refusal_of n = cond (eqb n 3) Program (cond (eqb n 4) Store (cond (eqb n 5) Record (cond (eqb n 6) LineBytes (cond (eqb n 7) Buffers Clocks))))
+refusal_of n = cond (eqb n 3) Program (cond (eqb n 4) Store
+    (cond (eqb n 5) Record (cond (eqb n 6) LineBytes (cond (eqb n 7) Buffers Clocks))))
 
 -- the result with this number
 result_of : {T : Type 0} → ℕ → T → Result T Refusal
