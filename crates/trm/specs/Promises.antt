@@ -3,7 +3,7 @@
 -- Paper: "Where calls are turned down"; "The clock call takes the record and returns it".
 --   ResetNumbered, ClockNumbered, RunNumbered, LookNumbered, CopyNumbered, WatchNumbered, ImageNumbered   the contract of a call; r: result
 --   with_record   the lent clock's answer together with its record        value_of   a sighting as the watch returns it
-use Rattle.std.specs.Prelude.{ℕ, ◌+◌, ◌≡◌, cond, List, length, take, drop, eqb}
+use Rattle.std.specs.Prelude.{ℕ, ◌+◌, ◌≡◌, cond, List, length, take, drop, eqb, Option, Some, None, Result, Ok, Err}
 use Rattle.trm_reference.specs.Geometry.{paper_geometry}
 use Rattle.trm_reference.specs.Access.{Answer}
 use Rattle.trm_reference.specs.Trace.{After}
@@ -11,9 +11,11 @@ use Rattle.trm_cache.specs.declared.record.Cache.{Cache}
 use Rattle.trm_core.specs.Record.{Lent}
 use Rattle.trm_core.specs.Refusals.{reset_refusal, clock_refusal, run_refusal, look_refusal, copy_refusal, watch_refusal}
 use Rattle.trm_core.specs.Observe.{SightingHolds}
-use Rattle.trm_core.specs.declared.sighting.Sighting.{Sighting}
-use Rattle.trm_core.specs.declared.sighting.Sighting.TheVariants.{Clock, Nowhere}
 use Rattle.trm_core.specs.Run.{Ran}
+use Rattle.trm_core.specs.declared.record.Scalars.{Scalars}
+use Rattle.trm_call_refusals.specs.declared.refusal.Refusal.{Refusal}
+use Rattle.trm_call_refusals.specs.Numbers.{number_of}
+use Rattle.trm_clock_laws.specs.declared.inner.outcome.Clocked.{Clocked}
 use Rattle.trm_run_machine.specs.declared.machine.Machine.{Machine}
 use Rattle.trm_run_machine.specs.Machine.{record_of, lent, parts}
 use Rattle.trm_calls.specs.Promises.{pins, reset_gives, clock_gives, run_gives}
@@ -24,7 +26,6 @@ use Rattle.trm.specs.declared.exported_answers.ResetAnswer.{ResetAnswer}
 use Rattle.trm.specs.declared.exported_answers.ClockAnswer.{ClockAnswer}
 use Rattle.trm.specs.declared.exported_answers.LentAnswer.{LentAnswer}
 use Rattle.trm.specs.declared.exported_answers.RunAnswer.{RunAnswer}
-use Rattle.trm.specs.declared.inner.placed.Placed.{Placed}
 use Rattle.trm.specs.declared.exported_answers.LookAnswer.{LookAnswer}
 use Rattle.trm.specs.declared.exported_answers.WatchAnswer.{WatchAnswer}
 use Rattle.trm.specs.declared.image_calls.ImageAnswer.{ImageAnswer}
@@ -39,16 +40,11 @@ abbrev pub with_record : Machine → LentAnswer → ClockAnswer
 with_record m r =
     record { machine = m; number = r.number; byte = r.byte; word = r.word; finished = r.finished }
 
--- the answer of a clock on the parts of a record, together with the registers and the cache after it
-abbrev pub with_parts : Placed → List ℕ → Cache → ClockAnswer
-with_parts r rs ca =
-    record {
-      machine = parts r.scalars rs ca;
-      number = r.number;
-      byte = r.byte;
-      word = r.word;
-      finished = r.finished;
-    }
+-- the answer of a clock on the parts of a record, c being its scalars before, together with the registers and the cache after it
+abbrev pub with_parts : Scalars → Result Clocked Refusal → List ℕ → Cache → ClockAnswer
+with_parts c (Ok t) rs ca =
+    record { machine = parts t.scalars rs ca; number = 0; byte = t.byte; word = t.word; finished = t.finished }
+with_parts c (Err e) rs ca = record { machine = parts c rs ca; number = number_of e; byte = 0; word = 0; finished = 0 }
 
 abbrev pub ran : RunAnswer → List ℕ → List ℕ → List ℕ → Ran
 ran r s bytes words =
@@ -75,16 +71,16 @@ pub record CopyNumbered (m : Machine) (p s b : List ℕ) (r : ℕ) (b' : List �
   pub buffer : b' ≡ copy_gives p (lent m s) b
 
 -- a clock is found, or not
-abbrev pub value_of : ℕ → Sighting → WatchAnswer
-value_of number (Clock k) = record { number = number; found = 1; clock = k }
-value_of number Nowhere = record { number = number; found = 0; clock = 0 }
+abbrev pub value_of : ℕ → Option ℕ → WatchAnswer
+value_of number (Some k) = record { number = number; found = 1; clock = k }
+value_of number None = record { number = number; found = 0; clock = 0 }
 
 -- the answer shows some sighting; which of several clocks is free
 pub record WatchNumbered (bytes : List ℕ) (device : ℕ) (r : WatchAnswer) : Type 0 where
-  pub sighting : Sighting
+  pub sighting : Option ℕ
   pub answer : r ≡ value_of (watch_refusal device) sighting
   pub accepted : watch_refusal device ≡ 0 → SightingHolds bytes device sighting
-  pub refused : watch_refusal device ≡ 9 → sighting ≡ Nowhere
+  pub refused : watch_refusal device ≡ 9 → sighting ≡ None
 
 -- n is the store's length in words
 pub record ImageNumbered (n : ℕ) (image : List ℕ) (r : ImageAnswer) : Type 0 where

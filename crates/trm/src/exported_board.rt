@@ -4,8 +4,9 @@
 ghost use Rattle.std.specs.Prelude.{true, false};
 ghost use Rattle.trm.specs.BoardPromises.{BoardResetNumbered, BoardClockNumbered, BoardRunNumbered};
 
+use crate::inner::empty;
+use trm_board_calls::board_calls;
 use trm_board_calls::board_record::Board;
-use trm_call_refusals::inner::refusal_number;
 
 #[repr(C)]
 #[derive(Clone, Copy)]
@@ -38,12 +39,46 @@ pub struct BoardRunAnswer {
 pub fn trm_board_reset(store: &[u32]) -> BoardResetAnswer
     ensures { BoardResetNumbered store.now result }
 {
-    let r = trm_board_calls::board_calls::reset(store);
-    let refused = r.refused;
-    let board = r.board;
-    BoardResetAnswer {
-        board: board,
-        number: refusal_number::number_of(refused),
+    match board_calls::reset(store) {
+        Ok(board) => BoardResetAnswer {
+            board: board,
+            number: 0,
+        },
+        Err(refused) => BoardResetAnswer {
+            board: board_calls::new_board(empty::empty_record()),
+            number: u32::from(refused),
+        },
+    }
+}
+
+// One clock, the line joined or not.
+fn board_clock(
+    b: Board,
+    program: &[u32],
+    store: &mut [u32],
+    joined: bool,
+    given: u8,
+    switches: u8,
+) -> BoardClockAnswer
+    ensures { BoardClockNumbered b program.now store.old joined given switches result store.new }
+{
+    match board_calls::clock(b, program, store, joined, given, switches) {
+        Ok(r) => BoardClockAnswer {
+            board: r.board,
+            number: 0,
+            level: r.level,
+            byte: r.byte,
+            word: r.word,
+            finished: r.finished,
+        },
+        Err(refused) => BoardClockAnswer {
+            board: b,
+            number: u32::from(refused),
+            level: 0,
+            byte: 0,
+            word: 0,
+            finished: 0,
+        },
     }
 }
 
@@ -57,17 +92,7 @@ pub fn trm_board_clock(
 ) -> BoardClockAnswer
     ensures { BoardClockNumbered b program.now store.old false given switches result store.new }
 {
-    let r = trm_board_calls::board_calls::clock(b, program, store, given, switches);
-    let refused = r.refused;
-    let board = r.board;
-    BoardClockAnswer {
-        board: board,
-        number: refusal_number::number_of(refused),
-        level: r.level,
-        byte: r.byte,
-        word: r.word,
-        finished: r.finished,
-    }
+    board_clock(b, program, store, false, given, switches)
 }
 
 // One clock with the line joined to itself.
@@ -80,16 +105,39 @@ pub fn trm_board_clock_joined(
 ) -> BoardClockAnswer
     ensures { BoardClockNumbered b program.now store.old true given switches result store.new }
 {
-    let r = trm_board_calls::board_calls::clock_joined(b, program, store, given, switches);
-    let refused = r.refused;
-    let board = r.board;
-    BoardClockAnswer {
-        board: board,
-        number: refusal_number::number_of(refused),
-        level: r.level,
-        byte: r.byte,
-        word: r.word,
-        finished: r.finished,
+    board_clock(b, program, store, true, given, switches)
+}
+
+// One clock for each byte of `given`, the line joined or not.
+fn board_run(
+    b: Board,
+    program: &[u32],
+    store: &mut [u32],
+    joined: bool,
+    given: &[u8],
+    switches: &[u8],
+    levels: &mut [u8],
+    bytes: &mut [u8],
+    words: &mut [u32],
+) -> BoardRunAnswer
+    ensures { BoardRunNumbered b program.now store.old joined given.now switches.now
+        levels.old bytes.old words.old result store.new levels.new bytes.new words.new }
+{
+    match board_calls::run(
+        b, program, store, joined, given, switches, levels, bytes, words,
+    ) {
+        Ok(r) => BoardRunAnswer {
+            board: r.board,
+            number: 0,
+            used: r.used,
+            finished: r.finished,
+        },
+        Err(refused) => BoardRunAnswer {
+            board: b,
+            number: u32::from(refused),
+            used: 0,
+            finished: 0,
+        },
     }
 }
 
@@ -107,17 +155,9 @@ pub fn trm_board_run(
     ensures { BoardRunNumbered b program.now store.old false given.now switches.now
         levels.old bytes.old words.old result store.new levels.new bytes.new words.new }
 {
-    let r = trm_board_calls::board_calls::run(
-        b, program, store, given, switches, levels, bytes, words,
-    );
-    let refused = r.refused;
-    let board = r.board;
-    BoardRunAnswer {
-        board: board,
-        number: refusal_number::number_of(refused),
-        used: r.used,
-        finished: r.finished,
-    }
+    board_run(
+        b, program, store, false, given, switches, levels, bytes, words,
+    )
 }
 
 // One clock for each byte of `given`, with the line joined to itself.
@@ -134,15 +174,7 @@ pub fn trm_board_run_joined(
     ensures { BoardRunNumbered b program.now store.old true given.now switches.now
         levels.old bytes.old words.old result store.new levels.new bytes.new words.new }
 {
-    let r = trm_board_calls::board_calls::run_joined(
-        b, program, store, given, switches, levels, bytes, words,
-    );
-    let refused = r.refused;
-    let board = r.board;
-    BoardRunAnswer {
-        board: board,
-        number: refusal_number::number_of(refused),
-        used: r.used,
-        finished: r.finished,
-    }
+    board_run(
+        b, program, store, true, given, switches, levels, bytes, words,
+    )
 }

@@ -16,7 +16,7 @@ pub fn trm_clock(
 ) -> LentAnswer
     ensures { ClockNumbered m.old program.now store.old pins input (with_record m.new result) store.new }
 {
-    let r = crate::inner::placed::clock(
+    let outcome = crate::inner::placed::clock(
         m.scalars,
         program,
         &mut m.regs,
@@ -25,11 +25,21 @@ pub fn trm_clock(
         pins,
         input,
     );
-    m.scalars = r.scalars;
-    LentAnswer {
-        number: r.number,
-        byte: r.byte,
-        word: r.word,
-        finished: r.finished,
+    match outcome {
+        Ok(t) => {
+            m.scalars = t.scalars;
+            LentAnswer {
+                number: 0,
+                byte: t.byte,
+                word: t.word,
+                finished: t.finished,
+            }
+        }
+        Err(refused) => LentAnswer {
+            number: u32::from(refused),
+            byte: 0,
+            word: 0,
+            finished: 0,
+        },
     }
 }

@@ -3,11 +3,11 @@
 -- A slice or record that is lent is a reference; a contract sees what it holds before and after the call.
 --   ShippedReset, ShippedValue, ShippedLent, ShippedRun    the `ensures` of trm's trm_reset, trm_clock_value, trm_clock and trm_run
 --   ResetMet, ClockMet, RunMet                             those of trm_calls' reset, clock and run
-use Rattle.std.specs.Prelude.{ℕ, ◌≡◌, List}
+use Rattle.std.specs.Prelude.{ℕ, ◌≡◌, List, Result}
 use contract.Lifetimes.{Lfts}
 use Rattle.std.specs.Borrow.{Bor, MutBor}
+use Rattle.trm_call_refusals.specs.declared.refusal.Refusal.{Refusal}
 use Rattle.trm_run_machine.specs.declared.machine.Machine.{Machine}
-use Rattle.trm_calls.specs.declared.call_answers.Reset.{Reset}
 use Rattle.trm_run_machine.specs.declared.clock_answer.Clock.{Clock}
 use Rattle.trm_calls.specs.declared.call_answers.Run.{Run}
 use Rattle.trm_calls.proofs.machine_calls.reset.Reads as reset-reads
@@ -66,13 +66,13 @@ pub record ShippedRun (m : Machine) (p s ls inputs bytes words : List ℕ) (r : 
       (m, (program, (store, (line_bytes, (input_words, (answer_bytes, (answer_words, tt))))))) r
       (m, (program, (store', (line_bytes, (input_words, (answer_bytes', (answer_words', tt)))))))
 
-pub record ResetMet (s : List ℕ) (r : Reset) : Type 0 where
+pub record ResetMet (s : List ℕ) (r : Result Machine Refusal) : Type 0 where
   pub lifetimes : Lfts 1
   pub store : Bor (List ℕ)
   pub holds : store.now ≡ s
   pub ensures : reset-reads.Post lifetimes (store, tt) r (store, tt)
 
-pub record ClockMet (m : Machine) (p s : List ℕ) (line_byte input : ℕ) (r : Clock) (s' : List ℕ) : Type 0 where
+pub record ClockMet (m : Machine) (p s : List ℕ) (line_byte input : ℕ) (r : Result Clock Refusal) (s' : List ℕ) : Type 0 where
   pub lifetimes : Lfts 2
   pub program : Bor (List ℕ)
   pub store : MutBor (List ℕ)
@@ -81,7 +81,7 @@ pub record ClockMet (m : Machine) (p s : List ℕ) (line_byte input : ℕ) (r : 
   pub ensures : clock-reads.Post lifetimes (m, (program, (store, (line_byte, (input, tt))))) r
       (m, (program, (store', (line_byte, (input, tt)))))
 
-pub record RunMet (m : Machine) (p s ls inputs bytes words : List ℕ) (r : Run) (s' bytes' words' : List ℕ) : Type 0 where
+pub record RunMet (m : Machine) (p s ls inputs bytes words : List ℕ) (r : Result Run Refusal) (s' bytes' words' : List ℕ) : Type 0 where
   pub lifetimes : Lfts 6
   pub program : Bor (List ℕ)
   pub store : MutBor (List ℕ)

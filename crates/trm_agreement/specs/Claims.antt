@@ -1,6 +1,6 @@
 -- Demand 3 and the claims around it, one statement per field of `Claims`.
 -- Demand 3 is the first field, `Demand3` of specs/Demand.antt; the others say more about its parts. The value is in proofs/Theorems.antt.
-use Rattle.std.specs.Prelude.{ℕ, ◌≡◌, true, false, List, length}
+use Rattle.std.specs.Prelude.{ℕ, ◌≡◌, true, false, List, length, Result}
 use mir.Val.{Val}
 use denote.Laws.{Is}
 use denote.Struct.Declared.{row}
@@ -13,10 +13,10 @@ use Rattle.trm_core.specs.Clock.{clock_of}
 use Rattle.trm_core.specs.Refusals.{reset_refusal, clock_refusal, run_refusal}
 use Rattle.trm_core.specs.Run.{run_of}
 use Rattle.trm_core.specs.Claims.{acknowledges, Counted, Kept}
+use Rattle.trm_call_refusals.specs.declared.refusal.Refusal.{Refusal}
 use Rattle.trm_run_machine.specs.declared.machine.Machine.{Machine}
 use Rattle.trm_run_machine.specs.Machine.{record_of, lent}
 use Rattle.trm_run_machine.specs.contracts.machine.Machine.{the_type}
-use Rattle.trm_calls.specs.declared.call_answers.Reset.{Reset}
 use Rattle.trm_run_machine.specs.declared.clock_answer.Clock.{Clock}
 use Rattle.trm_calls.specs.declared.call_answers.Run.{Run}
 use Rattle.trm_agreement.specs.Log.{clocks_of, entries, calls, log_of, clocked_in, answers_in, fed_of, state_of}
@@ -60,16 +60,16 @@ RunsAreRuns =
 
 -- The functions of trm_calls: for every input there is a result that the contract allows.
 pub record ResetAnswered (s : List ℕ) : Type 0 where
-  pub result : Reset
+  pub result : Result Machine Refusal
   pub met : ResetMet s result
 
 pub record ClockAnswered (m : Machine) (p s : List ℕ) (line_byte input : ℕ) : Type 0 where
-  pub result : Clock
+  pub result : Result Clock Refusal
   pub store : List ℕ
   pub met : ClockMet m p s line_byte input result store
 
 pub record RunAnswered (m : Machine) (p s line_bytes inputs bytes words : List ℕ) : Type 0 where
-  pub result : Run
+  pub result : Result Run Refusal
   pub store : List ℕ
   pub bytes' : List ℕ
   pub words' : List ℕ

@@ -5,15 +5,15 @@
 --   Meets p m s c a           a function that makes the call c returned a: by value, lent or a run, mixed in any way
 --   Exchange p m s cs as      every call meets its contract, and the next one is made with the record and the store left
 --   exchange_log G p m s cs as    the log of the returns, after the start
-use Rattle.std.specs.Prelude.{ℕ, ◌≡◌, ◌≢◌, cond, List, [], ◌∷◌, ◌++◌, eqb}
+use Rattle.std.specs.Prelude.{ℕ, ◌≡◌, ◌≢◌, cond, List, [], ◌∷◌, ◌++◌, eqb, Ok, Err}
 use Rattle.trm_reference.specs.Geometry.{Geometry}
 use Rattle.trm_reference.specs.Access.{Answer, silent}
 use Rattle.trm_reference.specs.Trace.{Pins, clocks}
 use Rattle.trm_core.specs.Clock.{clock_of}
+use Rattle.trm_call_refusals.specs.declared.refusal.Refusal.{Refusal}
 use Rattle.trm_call_refusals.specs.Numbers.{number_of as refusal_number}
 use Rattle.trm_run_machine.specs.declared.machine.Machine.{Machine}
 use Rattle.trm_run_machine.specs.Machine.{lent}
-use Rattle.trm_calls.specs.declared.call_answers.Reset.{Reset}
 use Rattle.trm_run_machine.specs.declared.clock_answer.Clock.{Clock}
 use Rattle.trm_calls.specs.declared.call_answers.Run.{Run}
 use Rattle.trm.specs.declared.exported_answers.ResetAnswer.{ResetAnswer}
@@ -28,12 +28,11 @@ use Rattle.trm_agreement.specs.CallContracts.{ShippedReset, ShippedValue, Shippe
 -- an accepted reset: of trm_reset, or of trm_calls
 pub data Starts (s : List ℕ) : Machine → Type 0 where
   shipped : (r : ResetAnswer) → ShippedReset s r → r.number ≡ 0 → Starts s r.machine
-  own : (r : Reset) → ResetMet s r → refusal_number r.refused ≡ 0 → Starts s r.machine
+  own : (m : Machine) → ResetMet s (Ok m) → Starts s m
 
--- a refused reset
+-- a refused reset, of trm_reset: that of trm_calls returns no record
 pub data Fails (s : List ℕ) : Machine → Type 0 where
   shipped_not : (r : ResetAnswer) → ShippedReset s r → r.number ≢ 0 → Fails s r.machine
-  own_not : (r : Reset) → ResetMet s r → refusal_number r.refused ≢ 0 → Fails s r.machine
 
 -- the number, the record that is returned or was lent, and the lent buffers after the call
 pub data Returned : Type 0 where
@@ -61,7 +60,8 @@ abbrev pub as_answer : ℕ → ℕ → ℕ → Answer
 as_answer byte word finished = record { byte = byte; word = word; done = finished }
 
 -- what the contract of a function ensures of its result, of a lent record and of the buffers at exit, and nothing else: a clock call by
--- trm_clock_value or by trm_clock, which is lent the record, a run by trm_run; or either by the function of trm_calls
+-- trm_clock_value or by trm_clock, which is lent the record, a run by trm_run; or either by the function of trm_calls, whose caller keeps
+-- the record if it is refused
 pub data Meets (p : List ℕ) (m : Machine) (s : List ℕ) : Call → Returned → Type 0 where
   by_value : (line_byte input : ℕ) (r : ClockAnswer) (s' : List ℕ) → ShippedValue m p s line_byte input r s'
       → Meets p m s (clock_call line_byte input) (clock_returned r.number r.machine s' (as_answer r.byte r.word r.finished))
@@ -71,13 +71,16 @@ pub data Meets (p : List ℕ) (m : Machine) (s : List ℕ) : Call → Returned �
       → ShippedRun m p s line_bytes inputs bytes words r s' bytes' words'
       → Meets p m s (run_call line_bytes inputs bytes words)
       (run_returned r.number r.machine s' r.used r.finished bytes' words')
-  own_clock : (line_byte input : ℕ) (r : Clock) (s' : List ℕ) → ClockMet m p s line_byte input r s'
-      → Meets p m s (clock_call line_byte input)
-      (clock_returned (refusal_number r.refused) r.machine s' (as_answer r.byte r.word r.finished))
+  own_clock : (line_byte input : ℕ) (r : Clock) (s' : List ℕ) → ClockMet m p s line_byte input (Ok r) s'
+      → Meets p m s (clock_call line_byte input) (clock_returned 0 r.machine s' (as_answer r.byte r.word r.finished))
+  own_clock_not : (line_byte input : ℕ) (e : Refusal) (s' : List ℕ) → ClockMet m p s line_byte input (Err e) s'
+      → Meets p m s (clock_call line_byte input) (clock_returned (refusal_number e) m s' (silent 0))
   own_run : (line_bytes inputs bytes words : List ℕ) (r : Run) (s' bytes' words' : List ℕ)
-      → RunMet m p s line_bytes inputs bytes words r s' bytes' words'
-      → Meets p m s (run_call line_bytes inputs bytes words)
-      (run_returned (refusal_number r.refused) r.machine s' r.used r.finished bytes' words')
+      → RunMet m p s line_bytes inputs bytes words (Ok r) s' bytes' words'
+      → Meets p m s (run_call line_bytes inputs bytes words) (run_returned 0 r.machine s' r.used r.finished bytes' words')
+  own_run_not : (line_bytes inputs bytes words : List ℕ) (e : Refusal) (s' bytes' words' : List ℕ)
+      → RunMet m p s line_bytes inputs bytes words (Err e) s' bytes' words'
+      → Meets p m s (run_call line_bytes inputs bytes words) (run_returned (refusal_number e) m s' 0 0 bytes' words')
 
 -- refused or not, the next call is made with the record and the store that are left
 unfoldable pub Exchange : List ℕ → Machine → List ℕ → List Call → List Returned → Type 0

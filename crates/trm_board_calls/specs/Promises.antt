@@ -2,19 +2,20 @@
 -- buffers.
 -- Request A1; document 01: "Checks go down the table .. It returns the number only and writes nothing".
 --   board_clock_gives p x joined given switches, board_run_gives   the outcome of each; joined: the line is joined to itself
+--   clock_left b r s, run_left    the outcome that a result shows
 --   ResetHolds, ClockHolds, RunHolds    the whole promise of each call, r being its result
-use Rattle.std.specs.Prelude.{ℕ, ◌≡◌, Bool, cond, List, eqb}
+use Rattle.std.specs.Prelude.{ℕ, ◌≡◌, Bool, cond, List, eqb, Result, Ok, Err, IfOk}
 use Rattle.trm_reference.specs.Geometry.{paper_geometry}
 use Rattle.trm_reference.specs.Access.{silent}
 use Rattle.trm_reference.specs.Trace.{After}
 use Rattle.trm_core.specs.Record.{Lent}
 use Rattle.trm_core.specs.Refusals.{reset_refusal}
-use Rattle.trm_call_refusals.specs.Numbers.{number_of}
+use Rattle.trm_call_refusals.specs.Numbers.{number_in}
+use Rattle.trm_call_refusals.specs.declared.refusal.Refusal.{Refusal}
 use Rattle.trm_calls.specs.Promises.{reset_gives}
 use Rattle.trm_serial.specs.Timing.{paper_timing}
 use Rattle.trm_board.specs.Board.{inputs_of, Board, Shown, board_reset, board_clock}
 use Rattle.trm_board_calls.specs.declared.board_record.Board as coded
-use Rattle.trm_board_calls.specs.declared.board_answers.BoardReset.{BoardReset}
 use Rattle.trm_board_calls.specs.declared.board_answers.BoardClock.{BoardClock}
 use Rattle.trm_board_calls.specs.declared.board_answers.BoardRun.{BoardRun}
 use Rattle.trm_board_calls.specs.Cores.{record_core}
@@ -43,19 +44,28 @@ board_run_gives p x joined given switches levels bytes words =
 abbrev pub clocked : BoardClock → List ℕ → After (Board Lent) Shown
 clocked r s = stepped r.board.machine r.board.devices s r.level r.byte r.word r.finished
 
-abbrev pub ran : BoardRun → List ℕ → List ℕ → List ℕ → List ℕ → BoardRan
-ran r s levels bytes words =
+-- the outcome of a clock from its result and the store after it; a refused one leaves the board that was passed, and has no answer
+abbrev pub clock_left : coded.Board → Result BoardClock Refusal → List ℕ → After (Board Lent) Shown
+clock_left b (Ok r) s = clocked r s
+clock_left b (Err e) s = record { state = board_of b s; out = record { level = 0; answer = silent 0 } }
+
+-- the outcome of a run from its result and the borrowed parts after it
+abbrev pub run_left : coded.Board → Result BoardRun Refusal → List ℕ → List ℕ → List ℕ → List ℕ → BoardRan
+run_left b (Ok r) s levels bytes words =
     record { state = board_of r.board s; used = r.used; finished = r.finished; levels = levels; bytes = bytes; words = words }
+run_left b (Err e) s levels bytes words =
+    record { state = board_of b s; used = 0; finished = 0; levels = levels; bytes = bytes; words = words }
 
-pub record ResetHolds (s : List ℕ) (r : BoardReset) : Type 0 where
-  pub number : number_of r.refused ≡ reset_refusal s
-  pub board : board_of r.board s ≡ board_reset_gives s
+pub record ResetHolds (s : List ℕ) (r : Result coded.Board Refusal) : Type 0 where
+  pub number : number_in r ≡ reset_refusal s
+  pub board : IfOk r (λ b. board_of b s ≡ board_reset_gives s)
 
-pub record ClockHolds (b : coded.Board) (p s : List ℕ) (joined : Bool) (given switches : ℕ) (r : BoardClock) (s' : List ℕ) : Type 0 where
-  pub number : number_of r.refused ≡ board_clock_refusal p (board_of b s) given
-  pub outcome : clocked r s' ≡ board_clock_gives p (board_of b s) joined given switches
+pub record ClockHolds (b : coded.Board) (p s : List ℕ) (joined : Bool) (given switches : ℕ) (r : Result BoardClock Refusal)
+    (s' : List ℕ) : Type 0 where
+  pub number : number_in r ≡ board_clock_refusal p (board_of b s) given
+  pub outcome : clock_left b r s' ≡ board_clock_gives p (board_of b s) joined given switches
 
-pub record RunHolds (b : coded.Board) (p s : List ℕ) (joined : Bool) (given switches levels bytes words : List ℕ) (r : BoardRun)
-    (s' levels' bytes' words' : List ℕ) : Type 0 where
-  pub number : number_of r.refused ≡ board_run_refusal p (board_of b s) given switches levels bytes words
-  pub outcome : ran r s' levels' bytes' words' ≡ board_run_gives p (board_of b s) joined given switches levels bytes words
+pub record RunHolds (b : coded.Board) (p s : List ℕ) (joined : Bool) (given switches levels bytes words : List ℕ)
+    (r : Result BoardRun Refusal) (s' levels' bytes' words' : List ℕ) : Type 0 where
+  pub number : number_in r ≡ board_run_refusal p (board_of b s) given switches levels bytes words
+  pub outcome : run_left b r s' levels' bytes' words' ≡ board_run_gives p (board_of b s) joined given switches levels bytes words

@@ -1,21 +1,12 @@
-// What the board's calls return: the board, the refusal, and what the call reports.
+// What an accepted clock and run of the board return: the board, and what the call reports. A reset returns the board alone.
 // Request A1; document 01: "reports the clocks used and instructions finished". The board comes first, so that no copy of it is unaligned
 // (D-76).
 use crate::board_record::Board;
-use trm_call_refusals::refusal::Refusal;
-
-// A reset: the board to start from; if refused, one that every call refuses.
-#[derive(Clone, Copy)]
-pub struct BoardReset {
-    pub board: Board,
-    pub refused: Refusal,
-}
 
 // A clock: the level sent in it, and the core's answer. `finished` is 1 if an instruction ended.
 #[derive(Clone, Copy)]
 pub struct BoardClock {
     pub board: Board,
-    pub refused: Refusal,
     pub level: u8,
     pub byte: u8,
     pub word: u32,
@@ -26,7 +17,6 @@ pub struct BoardClock {
 #[derive(Clone, Copy)]
 pub struct BoardRun {
     pub board: Board,
-    pub refused: Refusal,
     pub used: u64,
     pub finished: u64,
 }

@@ -1,6 +1,6 @@
 // The serial board with the core of document 01 inside: reset, one clock and a run, with the line given or joined to itself.
 // Request A1: "Each of its clocks takes the serial line, the switches, interrupt 1 and stall".
-// No call has a `requires`; a refused clock or run returns the board as given, and a refused call changes no borrowed buffer.
+// No call has a `requires`; a refused call returns the refusal alone, and changes no borrowed buffer.
 #![tactic(auto)]
 
 pub mod board_answers;

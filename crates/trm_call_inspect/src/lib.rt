@@ -4,5 +4,4 @@
 #![tactic(auto)]
 
 mod inner;
-pub mod inspect_answers;
 pub mod inspect_calls;

@@ -1,17 +1,17 @@
 -- Laws of the tests over a list, what a passed row implies, and the number of a call by its first rows.
--- Idea: the list from index i on is its i-th number, then the rest; the other laws are by cases of a Bool.
---   all_more, all-bad, all_end, most-more, most-end   the tests over a list
---   passed-store, passed-clocks, passed_length   what a passed row implies        code-zero, kept-number, passed-rows   the number
-use Prim.Native.Nat.{ℕ, suc, ◌+◌, ◌^◌, ◌≤◌, ◌<◌}
+-- Idea: the tests over a list by induction; the other laws are by cases of a Bool.
+--   all-by, most-is   the tests over a list        passed_store, passed_clocks, passed_length   what a passed row implies
+--   rows   a call by its first rows: refused, passed, and then its clock count        reset_short   a reset
+use Prim.Native.Nat.{ℕ, zero, suc, max, ◌+◌, ◌^◌, ◌≤◌, ◌<◌}
 use mathlib.Core.Path.{◌≡◌, refl, sym, ◌∙◌}
-use mathlib.Core.Bool.{Bool, true, false, cond, not, ◌&&◌, ◌||◌, and-true}
+use mathlib.Core.Bool.{Bool, true, false, cond, not, ◌&&◌, ◌||◌, and-true, and-false}
 use mathlib.Core.List.{List, [], ◌∷◌}
-use native.Mathlib.Numerals.{add-one}
 use native.Mathlib.Omega.{arith}
-use borrow.Author.Tests.{le-leb, lt-leb, leb-true, leb-false, ltb-true, ltb-false, eqb-true}
-use lib.ListN.{length, get_or, drop, drop_of_length-le}
-use lib.Seq.{drop-cons}
+use borrow.Author.Tests.{le-leb, lt-leb, leb-true, leb-false, ltb-true, ltb-false}
+use lib.ListN.{length, get_or}
 use lib.Dec.{eqb, leb, ltb}
+use Rattle.std.specs.List.{AllWithin, HoldsAt, fold}
+use Rattle.std.specs.Bool.{MatchBool}
 use Rattle.trm_laws.proofs.Tests.{clash, both, all4, test_at}
 use Rattle.trm_word.specs.Address.{store_length_ok}
 use Rattle.trm_reference.specs.Geometry.{paper_geometry}
@@ -19,57 +19,51 @@ use Rattle.trm_reference.specs.Visible.{cache_on, word_at}
 use Rattle.trm_core.specs.declared.record.Counts.{Counts}
 use Rattle.trm_core.specs.Record.{Machine, visible_of, cache_of}
 use Rattle.trm_core.specs.Rule.{widths_ok, phase_ok, registers_ok, counts_ok, lines_ok, record_ok}
-use Rattle.trm_core.specs.Refusals.{all_at_most, line_bytes_refused, record_rows, reset_refusal}
+use Rattle.trm_core.specs.Refusals.{all_at_most, store_ok, line_bytes_refused, count_row, clock_rows, run_rows, record_rows, reset_refusal}
 use Rattle.trm_core.proofs.Laws.Fit.{legal_small}
-use Rattle.trm_core.proofs.Laws.Rows.{Passed, rows-passed, rows-kept}
+use Rattle.trm_core.proofs.Laws.Rows.{Passed, rows-passed, rows-kept, rows-rest}
+use Rattle.trm_call_refusals.specs.declared.refusal.Refusal.{Refusal}
+use Rattle.trm_call_refusals.specs.declared.refusal.Refusal.TheVariants.{Program, Store, Record, LineBytes, Buffers, Clocks, Place}
+use Rattle.trm_call_refusals.specs.Numbers.{number_of}
 
-all_cons : (limit x : ℕ) (xs : List ℕ) → all_at_most limit (x ∷ xs) ≡ (leb x limit && all_at_most limit xs)
+-- the test of words by what holds of each of them
+pub all-by : (limit : ℕ) (xs : List ℕ) (r : Bool) → MatchBool r (AllWithin (λ x. x ≤ limit) xs 0 (length xs))
+    ((k : ℕ) × (k < length xs) × HoldsAt (λ x. limit < x) xs k) → r ≡ all_at_most limit xs
 unfolding all_at_most
-all_cons limit x xs = refl
-
-all_nil : (limit : ℕ) → all_at_most limit [] ≡ true
-unfolding all_at_most
-all_nil limit = refl
-
--- a number within the limit can be dropped
-pub all_more : (limit : ℕ) (xs : List ℕ) (i : ℕ) → i < length xs → get_or xs i 0 ≤ limit
-    → all_at_most limit (drop i xs) ≡ all_at_most limit (drop (i + 1) xs)
-all_more limit xs i h l = rw (drop-cons xs i 0 h, all_cons, le-leb _ _ l, add-one)
-
--- a number above the limit makes the test fail
-pub all-bad : (limit : ℕ) (xs : List ℕ) (i : ℕ) → i < length xs → limit < get_or xs i 0 → all_at_most limit (drop i xs) ≡ false
-all-bad limit xs i h l = rw (drop-cons xs i 0 h, all_cons, lt-leb _ _ l)
-
--- after the end none is left
-pub all_end : (limit : ℕ) (xs : List ℕ) (i : ℕ) → length xs ≤ i → all_at_most limit (drop i xs) ≡ true
-all_end limit xs i h = rw (drop_of_length-le xs h) (all_nil limit)
+all-by limit xs true h = sym (within xs (λ k d l. h k d (omega arith) l))
+  where
+    within : (xs : List ℕ) → ((k d : ℕ) → k < length xs → get_or xs k d ≤ limit) → all_at_most limit xs ≡ true
+    within [] h = refl
+    within (x ∷ xs) h = rw (le-leb x limit (h 0 0 (omega arith)), within xs (λ k d l. h (suc k) d (omega arith))) refl
+all-by limit xs false h = sym (above xs h.0 h.1 (h.2 0))
+  where
+    above : (xs : List ℕ) (k : ℕ) → k < length xs → limit < get_or xs k 0 → all_at_most limit xs ≡ false
+    above [] k l e = absurd (omega arith)
+    above (x ∷ xs) zero l e = rw (lt-leb x limit e) refl
+    above (x ∷ xs) (suc k) l e = rw (above xs k (omega arith) e) (and-false (leb x limit))
 
 -- the larger of two is within the limit exactly if both are
-larger-most : (limit a b : ℕ) → leb (cond (ltb a b) b a) limit ≡ (leb a limit && leb b limit)
-larger-most limit a b = go (ltb a b) refl (leb a limit) refl (leb b limit) refl
+larger-most : (limit a b : ℕ) → leb (max a b) limit ≡ (leb a limit && leb b limit)
+larger-most limit a b = go (leb a limit) refl (leb b limit) refl
   where
-    go : (t : Bool) → ltb a b ≡ t → (x : Bool) → leb a limit ≡ x → (y : Bool) → leb b limit ≡ y
-        → leb (cond t b a) limit ≡ (x && y)
-    go true e true p y q = q
-    go true e false p true q = absurd (omega (arith, ltb-true a b e, leb-false a limit p, leb-true b limit q))
-    go true e false p false q = q
-    go false e true p true q = p
-    go false e true p false q = absurd (omega (arith, ltb-false a b e, leb-true a limit p, leb-false b limit q))
-    go false e false p y q = p
+    go : (x : Bool) → leb a limit ≡ x → (y : Bool) → leb b limit ≡ y → leb (max a b) limit ≡ (x && y)
+    go true p true q = let e : max a b ≤ limit = omega (arith, leb-true a limit p, leb-true b limit q) in le-leb _ _ e
+    go true p false q = let e : limit < max a b = omega (arith, leb-false b limit q) in lt-leb _ _ e
+    go false p y q = let e : limit < max a b = omega (arith, leb-false a limit p) in lt-leb _ _ e
 
 and_step : (a b c : Bool) → ((a && b) && c) ≡ (a && (b && c))
 and_step true b c = refl
 and_step false b c = refl
 
--- the largest number so far represents all of them
-pub most-more : (limit m : ℕ) (xs : List ℕ) (i : ℕ) → i < length xs
-    → (leb (cond (ltb m (get_or xs i 0)) (get_or xs i 0) m) limit && all_at_most limit (drop (i + 1) xs))
-    ≡ (leb m limit && all_at_most limit (drop i xs))
-most-more limit m xs i h = rw (larger-most limit m (get_or xs i 0), drop-cons xs i 0 h, all_cons, add-one)
-    (and_step (leb m limit) (leb (get_or xs i 0) limit) (all_at_most limit (drop (suc i) xs)))
+-- the largest of the numbers, and of m, represents all of them
+most-with : (limit m : ℕ) (xs : List ℕ) → leb (fold (λ a x. max a x) m xs) limit ≡ (leb m limit && all_at_most limit xs)
+unfolding all_at_most
+most-with limit m [] = sym (and-true (leb m limit))
+most-with limit m (x ∷ xs) =
+    rw (most-with limit (max m x) xs, larger-most limit m x) (and_step (leb m limit) (leb x limit) (all_at_most limit xs))
 
-pub most-end : (limit m : ℕ) (xs : List ℕ) (i : ℕ) → length xs ≤ i → (leb m limit && all_at_most limit (drop i xs)) ≡ leb m limit
-most-end limit m xs i h = rw (all_end limit xs i h) (and-true (leb m limit))
+pub most-is : (limit : ℕ) (xs : List ℕ) → leb (fold (λ a x. max a x) 0 xs) limit ≡ all_at_most limit xs
+most-is limit xs = most-with limit 0 xs ∙ rw (le-leb 0 limit (omega arith)) refl
 
 fourth : (a b c d e : Bool) → a && b && c && d && e ≡ true → d ≡ true
 fourth a b c d e t = both (a && b && c && d) e (λ q _. both (a && b && c) d (λ _ r. r) q) t
@@ -81,13 +75,13 @@ passed-counts k t =
     (λ x _ _ _. ltb-true k.clocks (2 ^ 32) x) t
 
 -- a store that passes has a legal length
-pub passed-store : (n size : ℕ) → (store_length_ok n && eqb n size) ≡ true → store_length_ok n ≡ true
-passed-store n size t = both (store_length_ok n) (eqb n size) (λ p _. p) t
+pub passed_store : (n size : ℕ) → (store_length_ok n && eqb n size) ≡ true → store_length_ok n ≡ true
+passed_store n size t = both (store_length_ok n) (eqb n size) (λ p _. p) t
 
 -- a record that passes has a clock count of 32 bits
-pub passed-clocks : (p : List ℕ) (n : ℕ) (m : Machine) → record_ok paper_geometry p n m ≡ true → m.scalars.counts.clocks < 2 ^ 32
+pub passed_clocks : (p : List ℕ) (n : ℕ) (m : Machine) → record_ok paper_geometry p n m ≡ true → m.scalars.counts.clocks < 2 ^ 32
 unfolding record_ok
-passed-clocks p n m t =
+passed_clocks p n m t =
     passed-counts m.scalars.counts
     (fourth
     (widths_ok (visible_of m))
@@ -98,36 +92,71 @@ passed-clocks p n m t =
     t)
 
 -- a run that passes has at most 65,536 clocks
-pub passed_length : (line_bytes inputs : List ℕ) → line_bytes_refused line_bytes inputs ≡ false → length line_bytes < 2 ^ 32
-unfolding line_bytes_refused
+pub passed_length : (line_bytes : List ℕ) (inputs : ℕ)
+    → (not (eqb (length line_bytes) inputs) || ltb 65536 (length line_bytes) || not (all_at_most 7 line_bytes)) ≡ false
+    → length line_bytes < 2 ^ 32
 passed_length line_bytes inputs t =
-    go (eqb (length line_bytes) (length inputs)) (ltb 65536 (length line_bytes)) refl (not (all_at_most 7 line_bytes)) t
+    go (eqb (length line_bytes) inputs) (ltb 65536 (length line_bytes)) refl (not (all_at_most 7 line_bytes)) t
   where
     go : (a b : Bool) → ltb 65536 (length line_bytes) ≡ b → (d : Bool) → (not a || b || d) ≡ false → length line_bytes < 2 ^ 32
     go true true q d e = clash (sym e)
     go true false q d e = let h : length line_bytes ≤ 65536 = ltb-false 65536 (length line_bytes) q in omega (arith, h)
     go false b q d e = clash (sym e)
 
--- an accepted call has the number 0
-pub code-zero : {number code : ℕ} {t : Bool} → number ≡ code → t ≡ eqb number 0 → t ≡ true → code ≡ 0
-code-zero {number} {code} {t} e a b = sym e ∙ eqb-true number 0 (sym a ∙ b)
+-- a refusal's number is not 0
+pub refused : (r : Refusal) → eqb (number_of r) 0 ≡ false
+refused Program = refl
+refused Store = refl
+refused Record = refl
+refused LineBytes = refl
+refused Buffers = refl
+refused Clocks = refl
+refused Place = refl
 
 -- a call refused by rows 3, 4 or 5 has that row's number
-pub kept-number : (p : List ℕ) (m : Machine) (s : List ℕ) (rest : ℕ) {number : ℕ} {t : Bool} → number ≡ record_rows paper_geometry p m s 0
-    → t ≡ eqb number 0 → t ≡ false → number ≡ record_rows paper_geometry p m s rest
-kept-number p m s rest {number} {t} e a b =
-    e ∙ rows-kept paper_geometry p m s rest (test_at (sym e) 0 ∙ (sym a ∙ b))
+pub kept_number : (p : List ℕ) (m : Machine) (s : List ℕ) (rest : ℕ) (r : Refusal) → number_of r ≡ record_rows paper_geometry p m s 0
+    → number_of r ≡ record_rows paper_geometry p m s rest
+kept_number p m s rest r e = e ∙ rows-kept paper_geometry p m s rest (test_at (sym e) 0 ∙ refused r)
 
 -- otherwise these rows are passed
-pub passed-rows : (p : List ℕ) (m : Machine) (s : List ℕ) {number : ℕ} {t : Bool} → number ≡ record_rows paper_geometry p m s 0
-    → t ≡ eqb number 0 → t ≡ true → Passed paper_geometry p m s
-passed-rows p m s {number} {t} e a b = (rows-passed paper_geometry p m s 0 (code-zero e a b)).0
+passed-rows : (p : List ℕ) (m : Machine) (s : List ℕ) → 0 ≡ record_rows paper_geometry p m s 0 → Passed paper_geometry p m s
+passed-rows p m s e = (rows-passed paper_geometry p m s 0 (sym e)).0
+
+-- and the number is that of the call's own rows
+pub own_rows : (p : List ℕ) (m : Machine) (s : List ℕ) (rest : ℕ) → 0 ≡ record_rows paper_geometry p m s 0
+    → record_rows paper_geometry p m s rest ≡ rest
+own_rows p m s rest e = rows-rest _ _ _ _ _ (passed-rows p m s e)
+
+-- a call that passes them has a record with a clock count of 32 bits
+pub counted : (p : List ℕ) (m : Machine) (s : List ℕ) → 0 ≡ record_rows paper_geometry p m s 0 → m.scalars.counts.clocks < 2 ^ 32
+counted p m s e = passed_clocks p (length s) m (passed-rows p m s e).rule
+
+-- the own rows of a clock and of a run, and row 4, as tests
+pub clock_rows_are : (k l : ℕ) → clock_rows k l ≡ cond (ltb 7 l) 6 (cond (ltb 4294967295 (k + 1)) 8 0)
+unfolding clock_rows count_row
+clock_rows_are k l = refl
+
+pub run_rows_are : (k : ℕ) (ls is bs ws : List ℕ) → run_rows k ls is bs ws
+    ≡ cond (not (eqb (length ls) (length is)) || ltb 65536 (length ls) || not (all_at_most 7 ls)) 6
+    (cond (not (eqb (length bs) (length ls)) || not (eqb (length ws) (length ls))) 7
+    (cond (ltb 4294967295 (k + length ls)) 8 0))
+unfolding run_rows line_bytes_refused count_row
+run_rows_are k ls is bs ws = refl
+
+pub store_ok_is : (m : Machine) (s : List ℕ) → store_ok m s ≡ (store_length_ok (length s) && eqb (length s) m.scalars.size)
+unfolding store_ok
+store_ok_is m s = refl
+
+-- the laws of rows 3 to 5, and of the rows of a call
+pub ruleset first_rows = (store_ok_is, passed_store)
+
+pub ruleset rows = (kept_number, own_rows, counted, clock_rows_are, run_rows_are, passed_length)
 
 -- a reset that is not refused has a store below 2^32 words
-pub reset-short : (s : List ℕ) → eqb (reset_refusal s) 0 ≡ true → length s < 2 ^ 32
+pub reset_short : (s : List ℕ) → 0 ≡ reset_refusal s → length s < 2 ^ 32
 unfolding reset_refusal
-reset-short s = go (store_length_ok (length s)) refl
+reset_short s = go (store_length_ok (length s)) refl
   where
-    go : (t : Bool) → store_length_ok (length s) ≡ t → eqb (cond t 0 4) 0 ≡ true → length s < 2 ^ 32
+    go : (t : Bool) → store_length_ok (length s) ≡ t → ◌≡◌ {A = ℕ} 0 (cond t 0 4) → length s < 2 ^ 32
     go true q e = omega (arith, legal_small (length s) q)
-    go false q e = clash e
+    go false q e = absurd (omega arith)

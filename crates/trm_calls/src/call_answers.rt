@@ -1,21 +1,12 @@
-// What reset and run return: the refusal, the record, and what the call reports. A clock returns trm_run_machine's `Clock`.
+// What an accepted run returns. A reset returns the machine, and a clock trm_run_machine's `Clock`.
 // Paper: "reports the clocks used and instructions finished".
-// The numbers of the refusals are `number_of` of trm_call_refusals.
-use trm_call_refusals::refusal::Refusal;
+// A refused call returns the `Refusal` alone; the caller still has the record that it passed.
 use trm_run_machine::machine::Machine;
 
-// A reset: the record to start from; if refused, one that every call refuses.
-#[derive(Clone, Copy)]
-pub struct Reset {
-    pub machine: Machine,
-    pub refused: Refusal,
-}
-
-// A run: the clocks used and the instructions finished.
+// A run: the record, the clocks used and the instructions finished.
 #[derive(Clone, Copy)]
 pub struct Run {
     pub machine: Machine,
-    pub refused: Refusal,
     pub used: u64,
     pub finished: u64,
 }

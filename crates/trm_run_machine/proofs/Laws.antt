@@ -1,7 +1,6 @@
--- Laws for the methods of the record, one topic per file: accepted calls, cleared buffers, a clock as a run of one, steps.
+-- Laws for the methods of the record, one topic per file: accepted calls, a clock as a run of one, steps.
 -- Idea: the functions' proofs cite these laws and never unfold `clock_of`.
 pub mod Accepted
-pub mod Clear
 pub mod Shape
 pub mod One
 pub mod Begun

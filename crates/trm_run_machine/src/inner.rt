@@ -2,7 +2,6 @@
 // `quiet_clocks`: clocks up to the next access to a device;
 // `turns`: the loop of a run; `zero_record`: a reset. `c` are the scalars, by value; the arrays are borrowed in the order regs, full,
 // dirty, block, words; `w` is the word at PC. A function here may have a `requires`: parts of the record rule.
-mod clear;
 pub mod methods;
 mod next_clock;
 pub mod one_clock;

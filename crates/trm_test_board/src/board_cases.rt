@@ -8,6 +8,7 @@ use trm_board::record::Devices;
 use trm_board_calls::board_answers::{BoardClock, BoardRun};
 use trm_board_calls::board_calls;
 use trm_board_calls::board_record::Board;
+use trm_run_machine::inner::zero_record;
 use trm_test_cases::inner::case_text::Case;
 use trm_test_cases::inner::script::Lent;
 use trm_test_cases::inner::{digest, lists, print, script};
@@ -15,8 +16,7 @@ use trm_test_cases::inner::{digest, lists, print, script};
 // The board of a reset with 64 words.
 pub fn start() -> Board {
     let store = [0u32; 64];
-    let r = board_calls::reset(&store);
-    r.board
+    board_calls::new_board(zero_record::zero_record(&store))
 }
 
 // A field of the board.
@@ -79,11 +79,9 @@ fn show_board(rt: &impl Print, b: Board, store: &[u32]) -> io::Result<()> {
 
 // A reset: prints its number. If refused, the script keeps its board.
 fn reset(rt: &impl Print, b: Board, store: &[u32]) -> io::Result<Board> {
-    let r = board_calls::reset(store);
-    let refused = r.refused;
-    let n = script::number(refused);
-    print::decimal(rt, n)?;
-    let next = if n == 0 { r.board } else { b };
+    let outcome = board_calls::reset(store);
+    print::decimal(rt, script::number_in(&outcome))?;
+    let next = outcome.unwrap_or(b);
     show_board(rt, next, store)?;
     Ok(next)
 }
@@ -94,22 +92,9 @@ fn show_said(rt: &impl Print, level: u8, byte: u8, word: u32) -> io::Result<()> 
 }
 
 fn show_clock(rt: &impl Print, r: BoardClock, store: &[u32]) -> io::Result<()> {
-    let refused = r.refused;
-    print::decimal(rt, script::number(refused))?;
     show_said(rt, r.level, r.byte, r.word)?;
     print::decimal(rt, r.finished)?;
     show_board(rt, r.board, store)
-}
-
-// A clock, the line given or joined.
-fn clocked(c: Case, b: Board, program: &[u32], store: &mut [u32]) -> BoardClock {
-    let given = (c.w0 % 256) as u8;
-    let switches = (c.w1 % 256) as u8;
-    if c.w2 == 0 {
-        board_calls::clock(b, program, store, given, switches)
-    } else {
-        board_calls::clock_joined(b, program, store, given, switches)
-    }
 }
 
 // One clock: prints the number, the level, the answer byte and word, 1 if an instruction finished, and the digests.
@@ -120,36 +105,25 @@ fn clock(
     program: &[u32],
     store: &mut [u32],
 ) -> io::Result<Board> {
-    let r = clocked(c, b, program, store);
+    let given = (c.w0 % 256) as u8;
+    let switches = (c.w1 % 256) as u8;
+    let outcome = board_calls::clock(b, program, store, c.w2 != 0, given, switches);
+    print::decimal(rt, script::number_in(&outcome))?;
+    let r = outcome.unwrap_or(BoardClock {
+        board: b,
+        level: 0,
+        byte: 0,
+        word: 0,
+        finished: 0,
+    });
     show_clock(rt, r, store)?;
     Ok(r.board)
 }
 
 fn show_run(rt: &impl Print, r: BoardRun, store: &[u32]) -> io::Result<()> {
-    let refused = r.refused;
-    print::decimal(rt, script::number(refused))?;
     print::decimal(rt, r.used)?;
     print::decimal(rt, r.finished)?;
     show_board(rt, r.board, store)
-}
-
-// A run, the line given or joined. The five lists are parameters, as in the calls: the C interface has them one by one.
-fn ran(
-    b: Board,
-    program: &[u32],
-    store: &mut [u32],
-    joined: bool,
-    given: &[u8],
-    switches: &[u8],
-    levels: &mut [u8],
-    bytes: &mut [u8],
-    words: &mut [u32],
-) -> BoardRun {
-    if joined {
-        board_calls::run_joined(b, program, store, given, switches, levels, bytes, words)
-    } else {
-        board_calls::run(b, program, store, given, switches, levels, bytes, words)
-    }
 }
 
 // A run, and then digests of its buffers.
@@ -165,9 +139,15 @@ fn run_shown(
     bytes: &mut [u8],
     words: &mut [u32],
 ) -> io::Result<Board> {
-    let r = ran(
+    let outcome = board_calls::run(
         b, program, store, joined, given, switches, levels, bytes, words,
     );
+    print::decimal(rt, script::number_in(&outcome))?;
+    let r = outcome.unwrap_or(BoardRun {
+        board: b,
+        used: 0,
+        finished: 0,
+    });
     show_run(rt, r, store)?;
     print::hex(rt, digest::of(levels), 8)?;
     print::hex(rt, digest::of(bytes), 8)?;

@@ -6,7 +6,7 @@ use std::io;
 use trm_call_inspect::inspect_calls as inspect;
 use trm_calls::call_answers::Run;
 use trm_calls::machine_calls;
-use trm_core::sighting::Sighting;
+use trm_run_machine::inner::zero_record;
 use trm_run_machine::machine::Machine;
 use trm_test_cases::inner::case_text::Case;
 use trm_test_cases::inner::script::Lent;
@@ -15,24 +15,19 @@ use trm_test_cases::inner::{digest, lists, print, script};
 // The record of a reset with 64 words.
 pub fn start() -> Machine {
     let store = [0u32; 64];
-    let r = machine_calls::reset(&store);
-    r.machine
+    zero_record::zero_record(&store)
 }
 
 // A reset: prints its number. If refused, the script keeps its record.
 fn reset(rt: &impl Print, m: Machine, store: &[u32]) -> io::Result<Machine> {
-    let r = machine_calls::reset(store);
-    let refused = r.refused;
-    let n = script::number(refused);
-    print::decimal(rt, n)?;
-    let next = if n == 0 { r.machine } else { m };
+    let outcome = machine_calls::reset(store);
+    print::decimal(rt, script::number_in(&outcome))?;
+    let next = outcome.unwrap_or(m);
     script::show_all(rt, next, store)?;
     Ok(next)
 }
 
 fn show_run(rt: &impl Print, r: Run, store: &[u32]) -> io::Result<()> {
-    let refused = r.refused;
-    print::decimal(rt, script::number(refused))?;
     print::decimal(rt, r.used)?;
     print::decimal(rt, r.finished)?;
     script::show_all(rt, r.machine, store)
@@ -57,7 +52,13 @@ fn run_watched(
     words: &mut [u32],
     device: u32,
 ) -> io::Result<Machine> {
-    let r = machine_calls::run(m, program, store, pins, inputs, bytes, words);
+    let outcome = machine_calls::run(m, program, store, pins, inputs, bytes, words);
+    print::decimal(rt, script::number_in(&outcome))?;
+    let r = outcome.unwrap_or(Run {
+        machine: m,
+        used: 0,
+        finished: 0,
+    });
     show_run(rt, r, store)?;
     show_buffers(rt, bytes, words, device)?;
     Ok(r.machine)
@@ -106,10 +107,9 @@ fn look(
     store: &[u32],
     address: u32,
 ) -> io::Result<()> {
-    let r = inspect::look(m, program, store, address);
-    let refused = r.refused;
-    print::decimal(rt, script::number(refused))?;
-    print::word(rt, r.word)
+    let outcome = inspect::look(m, program, store, address);
+    print::decimal(rt, script::number_in(&outcome))?;
+    print::word(rt, outcome.unwrap_or(0))
 }
 
 // A copy into a buffer: prints the number and a digest of the buffer.
@@ -120,8 +120,8 @@ fn show_copy(
     store: &[u32],
     buffer: &mut [u32],
 ) -> io::Result<()> {
-    let refused = inspect::copy(m, program, store, buffer);
-    print::decimal(rt, script::number(refused))?;
+    let outcome = inspect::copy(m, program, store, buffer);
+    print::decimal(rt, script::number_in(&outcome))?;
     print::hex(rt, digest::of(buffer), 8)
 }
 
@@ -143,13 +143,11 @@ fn copy(
 
 // Prints the watch's number, and the clock or `none`.
 fn show_watch(rt: &impl Print, bytes: &[u8], device: u32) -> io::Result<()> {
-    let r = inspect::watch(bytes, device);
-    let refused = r.refused;
-    print::decimal(rt, script::number(refused))?;
-    let sighting = r.sighting;
-    match sighting {
-        Sighting::Clock(k) => print::decimal(rt, k),
-        Sighting::Nowhere => print::text(rt, b"none"),
+    let outcome = inspect::watch(bytes, device);
+    print::decimal(rt, script::number_in(&outcome))?;
+    match outcome {
+        Ok(Some(k)) => print::decimal(rt, k),
+        _ => print::text(rt, b"none"),
     }
 }
 

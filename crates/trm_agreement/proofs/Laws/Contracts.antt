@@ -2,7 +2,8 @@
 -- Idea: the `ensures` is a contract of trm or trm_calls at references; they are replaced by the lists that they hold.
 --   starts, fails    the record that an accepted or a refused reset returns        facts    what a call returned, by whichever function
 use Prim.Native.Nat.{ℕ}
-use mathlib.Core.Path.{◌≡◌, sym, ap, ◌∙◌}
+use mathlib.Core.Path.{◌≡◌, refl, sym, ap, ◌∙◌}
+use Rattle.std.specs.Prelude.{Result, Ok, Err}
 use mathlib.Core.Logic.{◌≢◌}
 use mathlib.Core.List.{List, []}
 use borrow.Author.Tests.{eq-eqb, ne_eqb}
@@ -13,10 +14,9 @@ use Rattle.trm_core.specs.Record as core
 use Rattle.trm_core.specs.Record.{Lent, reset_of, start}
 use Rattle.trm_core.specs.Refusals.{reset_refusal, clock_refusal, run_refusal}
 use Rattle.trm_core.specs.Run.{Ran}
-use Rattle.trm_call_refusals.specs.Numbers.{number_of as refusal_number}
+use Rattle.trm_call_refusals.specs.declared.refusal.Refusal.{Refusal}
 use Rattle.trm_run_machine.specs.declared.machine.Machine.{Machine}
 use Rattle.trm_run_machine.specs.Machine.{record_of, lent}
-use Rattle.trm_calls.specs.declared.call_answers.Reset.{Reset}
 use Rattle.trm_run_machine.specs.declared.clock_answer.Clock.{Clock}
 use Rattle.trm_calls.specs.declared.call_answers.Run.{Run}
 use Rattle.trm_calls.specs.Promises.{pins, reset_gives, clock_gives, run_gives, ResetHolds, ClockHolds, RunHolds}
@@ -27,8 +27,8 @@ use Rattle.trm.specs.declared.exported_answers.LentAnswer.{LentAnswer}
 use Rattle.trm.specs.declared.exported_answers.RunAnswer.{RunAnswer}
 use Rattle.trm_agreement.specs.Calls.{Call, clock_call, run_call}
 use Rattle.trm_agreement.specs.CallContracts.{ShippedReset, ShippedValue, ShippedLent, ShippedRun, ResetMet, ClockMet, RunMet}
-use Rattle.trm_agreement.specs.Exchange.{Starts, shipped, own, Fails, shipped_not, own_not, Returned, clock_returned, run_returned}
-use Rattle.trm_agreement.specs.Exchange.{Meets, by_value, by_lending, by_run, own_clock, own_run}
+use Rattle.trm_agreement.specs.Exchange.{Starts, shipped, own, Fails, shipped_not, Returned, clock_returned, run_returned}
+use Rattle.trm_agreement.specs.Exchange.{Meets, by_value, by_lending, by_run, own_clock, own_clock_not, own_run, own_run_not}
 
 shipped_reset_says : (s : List ℕ) (r : ResetAnswer) → ShippedReset s r → ResetNumbered s r
 shipped_reset_says s r h = rw (← h.holds) h.ensures
@@ -47,14 +47,14 @@ shipped_run_says : (m : Machine) (p s line_bytes inputs bytes words : List ℕ) 
 shipped_run_says m p s line_bytes inputs bytes words r s' bytes' words' h = let e = h.holds in
     rw (← e.0, ← e.1, ← e.2, ← e.3, ← e.4, ← e.5, ← e.6, ← e.7, ← e.8) h.ensures
 
-reset-says : (s : List ℕ) (r : Reset) → ResetMet s r → ResetHolds s r
+reset-says : (s : List ℕ) (r : Result Machine Refusal) → ResetMet s r → ResetHolds s r
 reset-says s r h = rw (← h.holds) h.ensures
 
-clock-says : (m : Machine) (p s : List ℕ) (line_byte input : ℕ) (r : Clock) (s' : List ℕ) → ClockMet m p s line_byte input r s'
-    → ClockHolds m p s line_byte input r s'
+clock-says : (m : Machine) (p s : List ℕ) (line_byte input : ℕ) (r : Result Clock Refusal) (s' : List ℕ)
+    → ClockMet m p s line_byte input r s' → ClockHolds m p s line_byte input r s'
 clock-says m p s line_byte input r s' h = let e = h.holds in rw (← e.0, ← e.1, ← e.2) h.ensures
 
-run-says : (m : Machine) (p s line_bytes inputs bytes words : List ℕ) (r : Run) (s' bytes' words' : List ℕ)
+run-says : (m : Machine) (p s line_bytes inputs bytes words : List ℕ) (r : Result Run Refusal) (s' bytes' words' : List ℕ)
     → RunMet m p s line_bytes inputs bytes words r s' bytes' words' → RunHolds m p s line_bytes inputs bytes words r s' bytes' words'
 run-says m p s line_bytes inputs bytes words r s' bytes' words' h = let e = h.holds in
     rw (← e.0, ← e.1, ← e.2, ← e.3, ← e.4, ← e.5, ← e.6, ← e.7, ← e.8) h.ensures
@@ -67,8 +67,8 @@ pub record ResetFacts (s : List ℕ) (code : ℕ) (m : Machine) : Type 0 where
 pub shipped_facts : (s : List ℕ) (r : ResetAnswer) → ShippedReset s r → ResetFacts s r.number r.machine
 shipped_facts s r h = let g = shipped_reset_says s r h in record { number = g.number; machine = g.machine }
 
-pub own-facts : (s : List ℕ) (r : Reset) → ResetMet s r → ResetFacts s (refusal_number r.refused) r.machine
-own-facts s r h = let g = reset-says s r h in record { number = g.number; machine = g.machine }
+pub own-facts : (s : List ℕ) (m : Machine) → ResetMet s (Ok m) → ResetFacts s 0 m
+own-facts s m h = let g = reset-says s (Ok m) h in record { number = g.number; machine = g.machine }
 
 -- an accepted reset
 pub record Started (s : List ℕ) (m : Machine) : Type 0 where
@@ -92,11 +92,10 @@ failed-by s n m h z = h.machine ∙ rw (ne_eqb (reset_refusal s) 0 (λ y. z (h.n
 -- a refused reset: no store fits its record
 pub fails : (s : List ℕ) (m : Machine) → Fails s m → record_of m ≡ reset_of paper_geometry []
 fails s m (shipped_not r h n) = failed-by s r.number r.machine (shipped_facts s r h) n
-fails s m (own_not r h n) = failed-by s (refusal_number r.refused) r.machine (own-facts s r h) n
 
 pub starts : (s : List ℕ) (m : Machine) → Starts s m → Started s m
 starts s m (shipped r h z) = started-by s r.number r.machine (shipped_facts s r h) z
-starts s m (own r h z) = started-by s (refusal_number r.refused) r.machine (own-facts s r h) z
+starts s m (own k h) = started-by s 0 k (own-facts s k h) refl
 
 module _ (p : List ℕ) (m : Machine) (s : List ℕ) where
   pub record ClockFacts (line_byte input code : ℕ) (left : Machine) (store : List ℕ) (out : Answer) : Type 0 where
@@ -129,6 +128,10 @@ module _ (p : List ℕ) (m : Machine) (s : List ℕ) where
       let g = shipped_run_says m p s line_bytes inputs bytes words r s' bytes' words' h in
       record { number = g.number; outcome = g.outcome }
   facts c a (own_clock line_byte input r s' h) =
-      let g = clock-says m p s line_byte input r s' h in record { number = g.number; outcome = g.outcome }
+      let g = clock-says m p s line_byte input (Ok r) s' h in record { number = g.number; outcome = g.outcome }
+  facts c a (own_clock_not line_byte input e s' h) =
+      let g = clock-says m p s line_byte input (Err e) s' h in record { number = g.number; outcome = g.outcome }
   facts c a (own_run line_bytes inputs bytes words r s' bytes' words' h) =
-      let g = run-says m p s line_bytes inputs bytes words r s' bytes' words' h in record { number = g.number; outcome = g.outcome }
+      let g = run-says m p s line_bytes inputs bytes words (Ok r) s' bytes' words' h in record { number = g.number; outcome = g.outcome }
+  facts c a (own_run_not line_bytes inputs bytes words e s' bytes' words' h) =
+      let g = run-says m p s line_bytes inputs bytes words (Err e) s' bytes' words' h in record { number = g.number; outcome = g.outcome }

@@ -1,7 +1,7 @@
 -- Rows 3, 4 and 5 of the board's calls: what a number of 0 says, and that they come before the call's own rows; what an accepted run is
 -- ready for.
 -- Idea: by cases on the tests.
-use Prim.Native.Nat.{ℕ, ◌+◌, ◌≤◌}
+use Prim.Native.Nat.{ℕ, ◌+◌, ◌^◌, ◌≤◌, ◌<◌}
 use mathlib.Core.Path.{◌≡◌, refl, sym, ap, ◌∙◌}
 use mathlib.Core.Bool.{Bool, true, false, cond, not, ◌||◌}
 use mathlib.Core.List.{List}
@@ -20,6 +20,10 @@ use Rattle.trm_core.specs.Rule.{record_ok}
 use Rattle.trm_core.specs.Claims.{Shaped}
 use Rattle.trm_core.specs.Refusals.{all_at_most, program_ok, store_ok, record_rows, count_row, line_bytes_refused}
 use Rattle.trm_core.proofs.Laws.Rows.{Passed, rows-passed, rows-rest}
+use Rattle.trm_call_refusals.specs.declared.refusal.Refusal.{Refusal}
+use Rattle.trm_call_refusals.specs.Numbers.{number_of}
+use Rattle.trm_call_refusals.proofs.Laws.{refused, passed_clocks}
+pub use Rattle.trm_call_refusals.proofs.Laws.{passed_length}
 use Rattle.trm_run_machine.specs.Machine.{record_of}
 use Rattle.trm_run_machine.proofs.Laws.Shape.{shaped_by_type}
 use Rattle.trm_serial.specs.Timing.{paper_timing}
@@ -69,13 +73,15 @@ module _ (p : List ℕ) (x : Board Lent) where
       go true true true false q = refl
       go true true true true q = clash (sym q)
 
-  -- of a number that a function returned, and its test
-  pub number-kept : (rest : ℕ) {number : ℕ} {t : Bool} → number ≡ board_rows p x 0 → t ≡ eqb number 0 → t ≡ false
-      → number ≡ board_rows p x rest
-  number-kept rest {number} {t} e q n = e ∙ board-kept rest (sym (ap (λ k. eqb k 0) e) ∙ sym q ∙ n)
+  -- of the number that a function returned: refused, passed, and then the clock count
+  pub number_kept : (rest : ℕ) (e : Refusal) → number_of e ≡ board_rows p x 0 → number_of e ≡ board_rows p x rest
+  number_kept rest e n = n ∙ board-kept rest (ap (λ k. eqb k 0) (sym n) ∙ refused e)
 
-  pub number-through : {number : ℕ} {t : Bool} → number ≡ board_rows p x 0 → t ≡ eqb number 0 → t ≡ true → Through p x
-  number-through {number} {t} e q n = (board-through 0 (sym e ∙ eqb-true number 0 (sym q ∙ n))).0
+  pub board_own : (rest : ℕ) → 0 ≡ board_rows p x 0 → board_rows p x rest ≡ rest
+  board_own rest z = board-rest rest (board-through 0 (sym z)).0
+
+  pub board_counted : 0 ≡ board_rows p x 0 → x.core.machine.scalars.counts.clocks < 2 ^ 32
+  board_counted z = passed_clocks p (length x.core.store) x.core.machine (board-through 0 (sym z)).0.core.rule
 
   ready-through : (more : ℕ) → Through p x → Shaped paper_geometry x.core.machine
       → x.core.machine.scalars.counts.clocks + more ≤ 4294967295 → Ready p x more
@@ -95,6 +101,16 @@ module _ (p : List ℕ) (x : Board Lent) where
       go : (t : Bool) → ltb 4294967295 (k + n) ≡ t → ◌≡◌ {A = ℕ} (cond t 8 0) 0 → k + n ≤ 4294967295
       go true e z = absurd (omega arith)
       go false e z = ltb-false 4294967295 (k + n) e
+
+-- rows 6 to 8 of a run, as tests
+pub board_run_rows_are : (clocks : ℕ) (gs ws lv bs os : List ℕ) → board_run_rows clocks gs ws lv bs os
+    ≡ cond (not (eqb (length gs) (length ws)) || ltb 65536 (length gs) || not (all_at_most 7 gs)) 6
+    (cond (not (eqb (length lv) (length gs)) || not (eqb (length bs) (length gs)) || not (eqb (length os) (length gs))) 7
+    (cond (ltb 4294967295 (clocks + length gs)) 8 0))
+unfolding board_run_rows line_bytes_refused count_row
+board_run_rows_are clocks gs ws lv bs os = refl
+
+pub ruleset run_laws = (number_kept, board_own, board_counted, board_run_rows_are, passed_length)
 
 -- rows 6 to 8 of a run
 pub record Own (clocks : ℕ) (gs ws lv bs os : List ℕ) : Type 0 where

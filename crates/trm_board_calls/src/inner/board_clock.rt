@@ -34,10 +34,7 @@ pub fn line_of(joined: bool, level: u64, given: u8) -> u64
     requires { level ≤ 1 }
     ensures { (result ≡ cond joined level (given % 2)) × (result ≤ 1) }
 {
-    if joined {
-        return level;
-    }
-    (given % 2) as u64
+    if joined { level } else { (given % 2) as u64 }
 }
 
 pub fn board_clock(

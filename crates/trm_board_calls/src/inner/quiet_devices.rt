@@ -16,10 +16,8 @@ pub fn line_bytes(tick: u64, given: &[u8], at: usize, k: usize) -> [u8; 64]
     ensures { (take k result ≡ lines_of tick (take k (drop at given.now))) × (length result ≡ 64) }
 {
     let mut lines = [0u8; 64];
-    let mut i: usize = 0;
-    while i < k {
+    for i in 0..k {
         lines[i] = device_reads::pins_byte(tick, given[at + i]);
-        i += 1;
     }
     lines
 }
@@ -42,8 +40,7 @@ pub fn devices_ahead(
         → Running p joined given.now ws q₀ (stage (record { core = y; devices = result }) total to levels.new
         bytes.new outs.new) }
 {
-    let mut i = at;
-    while i < to {
+    for i in at..to {
         let serial = d.serial;
         let level = transmitter::level_sent(serial);
         let line = board_clock::line_of(joined, level, given[i]);
@@ -52,7 +49,6 @@ pub fn devices_ahead(
         levels[i] = level as u8;
         bytes[i] = 0;
         outs[i] = 0;
-        i += 1;
     }
     d
 }

@@ -1,22 +1,22 @@
--- Laws of the loops of copy and watch, and of the byte that a watch looks for.
+-- Laws of the loop of copy, of the search of watch, and of the byte that a watch looks for.
 -- Idea: what holds below i and for i holds below i + 1; two lists are equal if all their words are.
---   Copied, copied_none, copied_more, copied-end   the invariant of the copy: before, during and after the loop
---   Unseen, unseen-none, unseen-more, unseen-end, seen   the same for the watch        no_write, write-to   the test of a byte
+--   Copied, copied_none, copied_more, copied_end   the invariant of the copy: before, during and after the loop
+--   first_holds   the answer of the watch        shows_is   the test of a byte
 use Prim.Native.Nat.{ℕ, ◌+◌, ◌/◌, ◌%◌, ◌≤◌, ◌<◌}
-use mathlib.Core.Path.{◌≡◌, sym, ◌∙◌}
-use mathlib.Core.Bool.{true, false}
+use mathlib.Core.Path.{◌≡◌, refl, sym, ap, ◌∙◌}
+use mathlib.Core.Bool.{true, false, ◌&&◌}
 use mathlib.Core.List.{List}
 use native.Mathlib.Omega.{arith}
 use native.Mathlib.Decide.{ℕ_discrete}
 use lib.ListN.{length, get_or, set, length-set}
 use lib.Dec.{eqb}
-use borrow.Author.Tests.{eq-eqb, ne_eqb}
 use lib.Seq.{get_or-set_same, get_or-set_other}
 use Rattle.trm_reference.specs.Geometry.{paper_geometry}
 use Rattle.trm_cache.specs.Cache.{view, copy_of}
 use Rattle.trm_cache.specs.declared.record.Cache.{Cache}
 use Rattle.trm_cache.proofs.Laws.Dirty.{copy_is}
-use Rattle.trm_core.specs.declared.sighting.Sighting.TheVariants.{Clock, Nowhere}
+use Rattle.std.specs.Prelude.{Option, Some, None, MatchOption, IsSomeAnd}
+use Rattle.std.specs.List.{AllWithin, HoldsAt}
 use Rattle.trm_core.specs.Observe.{shows_write, SightingHolds}
 
 -- the first i words of the buffer are those of memory
@@ -40,40 +40,29 @@ copied_more ca s i buffer x c h e = record {
     go k g (yes q) = rw q (get_or-set_same buffer i x 0 (omega (arith, c.long)) ∙ e)
     go k g (no q) = get_or-set_other buffer i k x 0 q ∙ c.each k (omega arith)
 
-pub copied-end : (ca : Cache) (s : List ℕ) (i : ℕ) (buffer : List ℕ) → Copied ca s i buffer → length s ≤ i
+pub copied_end : (ca : Cache) (s : List ℕ) (i : ℕ) (buffer : List ℕ) → Copied ca s i buffer → length s ≤ i
     → buffer ≡ copy_of paper_geometry ca s
-copied-end ca s i buffer c h = sym (copy_is paper_geometry ca s buffer (sym c.long) (λ a g. sym (c.each a (omega arith))))
+copied_end ca s i buffer c h = sym (copy_is paper_geometry ca s buffer (sym c.long) (λ a g. sym (c.each a (omega arith))))
 
--- no byte below i shows a write to the device
-pub record Unseen (bytes : List ℕ) (device i : ℕ) : Type 0 where
-  pub each : (k : ℕ) → k < i → shows_write device (get_or bytes k 0) ≡ false
+pub ruleset copying = (copied_none, copied_more, copied_end)
 
-pub unseen-none : (bytes : List ℕ) (device : ℕ) → Unseen bytes device 0
-unseen-none bytes device = record { each = λ k h. absurd (omega arith) }
-
-pub unseen-more : (bytes : List ℕ) (device i : ℕ) → Unseen bytes device i → shows_write device (get_or bytes i 0) ≡ false
-    → Unseen bytes device (i + 1)
-unseen-more bytes device i u e = record { each = λ k h. go k h (ℕ_discrete k i) }
-  where
-    go : (k : ℕ) → k < i + 1 → Dec (k ≡ i) → shows_write device (get_or bytes k 0) ≡ false
-    go k h (yes q) = rw q e
-    go k h (no q) = u.each k (omega arith)
-
-pub unseen-end : (bytes : List ℕ) (device i : ℕ) → Unseen bytes device i → length bytes ≤ i → SightingHolds bytes device Nowhere
+-- the first clock that shows the write, or none, is a right answer
+pub first_holds : (bytes : List ℕ) (device : ℕ) (o : Option ℕ)
+    → MatchOption o (AllWithin (λ b. shows_write device b ≡ false) bytes 0 (length bytes))
+    (λ k. (k < length bytes) × HoldsAt (λ b. shows_write device b ≡ true) bytes k
+    × AllWithin (λ b. shows_write device b ≡ false) bytes 0 k) → SightingHolds bytes device o
 unfolding SightingHolds
-unseen-end bytes device i u h k g = u.each k (omega arith)
+first_holds bytes device (Some k) h = (h.0, h.1 0)
+first_holds bytes device None h = λ k l. h k 0 (omega arith) l
 
-pub seen : (bytes : List ℕ) (device i : ℕ) → i < length bytes → shows_write device (get_or bytes i 0) ≡ true
-    → SightingHolds bytes device (Clock i)
-unfolding SightingHolds
-seen bytes device i h e = (h, e)
+-- a number is passed on as it is
+pub same_by : {Q : ℕ → ℕ → Type 0} (o r : Option ℕ) → ((x y : ℕ) → Q x y → y ≡ x)
+    → MatchOption o (r ≡ None) (λ x. IsSomeAnd r (Q x)) → r ≡ o
+same_by None r q h = h
+same_by (Some x) (Some y) q h = ap Some (q x y h)
+same_by (Some x) None q h = absurd h
 
--- bit 1 clear: no write
-pub no_write : (device byte : ℕ) → (byte / 2 % 2 ≡ 1 → ⊥) → shows_write device byte ≡ false
+-- the test of a byte as the code makes it
+pub shows_is : (device byte : ℕ) → byte < 256 → shows_write device byte ≡ (eqb (byte / 2 % 2) 1 && eqb (byte / 4) device)
 unfolding shows_write
-no_write device byte h = rw (ne_eqb (byte / 2 % 2) 1 h)
-
--- bit 1 set: a write to the device in bits 7-2
-pub write-to : (device byte : ℕ) → byte < 256 → byte / 2 % 2 ≡ 1 → shows_write device byte ≡ eqb (byte / 4) device
-unfolding shows_write
-write-to device byte h e = let q : byte / 4 % 64 ≡ byte / 4 = omega arith in rw (eq-eqb (byte / 2 % 2) 1 e, q)
+shows_is device byte h = let q : byte / 4 % 64 ≡ byte / 4 = omega arith in rw q refl

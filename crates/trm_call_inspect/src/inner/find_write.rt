@@ -4,28 +4,18 @@
 ghost use Rattle.std.specs.Prelude.{◌≡◌};
 ghost use Rattle.trm_core.specs.Observe.{shows_write, SightingHolds};
 
-use trm_core::sighting::Sighting;
-
 // Whether the byte shows a write to the device: bit 1 is set, and bits 2-7 are the device.
+#[tactic(auto, using(crate::proofs::Laws::Loops::shows_is))]
 fn shows_write(device: u32, byte: u8) -> bool
     ensures { result ≡ shows_write device byte }
 {
-    if byte / 2 % 2 != 1 {
-        return false;
-    }
-    (byte / 4) as u32 == device
+    byte / 2 % 2 == 1 && (byte / 4) as u32 == device
 }
 
 // The first clock that writes the device, or none.
-pub fn find_write(bytes: &[u8], device: u32) -> Sighting
+pub fn find_write(bytes: &[u8], device: u32) -> Option<u64>
     ensures { SightingHolds bytes.now device result }
 {
-    let mut i: usize = 0;
-    while i < bytes.len() {
-        if shows_write(device, bytes[i]) {
-            return Sighting::Clock(i as u64);
-        }
-        i += 1;
-    }
-    Sighting::Nowhere
+    let first = bytes.iter().position(|b| shows_write(device, *b));
+    first.map(|k| k as u64)
 }

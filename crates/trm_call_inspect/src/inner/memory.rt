@@ -9,6 +9,7 @@ ghost use Rattle.trm_cache.specs.Cache.{view, copy_of};
 use trm_cache::record::Cache;
 
 // The word at an address, taken mod the store's length.
+#[tactic(auto, using(crate::proofs::Laws::Accepted::legal_length))]
 pub fn look(cache: &Cache, store: &[u32], address: u32) -> u32
     requires { store_length_ok (length store.now) ≡ true }
     ensures { result ≡ view paper_geometry cache.now store.now (address % length store.now) }
@@ -18,13 +19,12 @@ pub fn look(cache: &Cache, store: &[u32], address: u32) -> u32
 }
 
 // All words, in address order.
+#[tactic(auto, using(crate::proofs::Laws::Loops::copying))]
 pub fn copy(cache: &Cache, store: &[u32], buffer: &mut [u32])
     requires { length buffer.old ≡ length store.now }
     ensures { buffer.new ≡ copy_of paper_geometry cache.now store.now }
 {
-    let mut i: usize = 0;
-    while i < store.len() {
+    for i in 0..store.len() {
         buffer[i] = cache.peek(store, i);
-        i += 1;
     }
 }

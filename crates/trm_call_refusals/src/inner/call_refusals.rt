@@ -5,7 +5,7 @@ ghost use Rattle.std.specs.Prelude.{◌≡◌};
 ghost use Rattle.trm_reference.specs.Geometry.{paper_geometry};
 ghost use Rattle.trm_core.specs.Record.{whole};
 ghost use Rattle.trm_core.specs.Refusals.{reset_refusal, clock_refusal, run_refusal, look_refusal, copy_refusal, watch_refusal};
-ghost use Rattle.trm_call_refusals.specs.Numbers.{number_of};
+ghost use Rattle.trm_call_refusals.specs.Numbers.{number_in};
 
 use crate::inner::{record_rows, table_rows};
 use crate::refusal::Refusal;
@@ -13,16 +13,18 @@ use trm_cache::record::Cache;
 use trm_core::record::Scalars;
 
 // A reset, which takes only the store.
-pub fn reset_refusal(store: &[u32]) -> Refusal
-    ensures { number_of result ≡ reset_refusal store.now }
+#[tactic(auto, unfolding(trm_core::specs::Refusals::reset_refusal))]
+pub fn reset_refusal(store: &[u32]) -> Result<(), Refusal>
+    ensures { number_in result ≡ reset_refusal store.now }
 {
-    if trm_word::inner::address::store_length_ok(store.len() as u64) {
-        return Refusal::Accepted;
+    if !trm_word::inner::address::store_length_ok(store.len() as u64) {
+        return Err(Refusal::Store);
     }
-    Refusal::Store
+    Ok(())
 }
 
 // One clock.
+#[tactic(auto, using(crate::proofs::Laws::rows), unfolding(trm_core::specs::Refusals::clock_refusal))]
 pub fn clock_refusal(
     c: Scalars,
     program: &[u32],
@@ -30,24 +32,21 @@ pub fn clock_refusal(
     cache: &Cache,
     store: &[u32],
     pins: u8,
-) -> Refusal
-    ensures { number_of result ≡ clock_refusal paper_geometry program.now (whole c regs.now
-        cache.now) store.now pins }
+) -> Result<(), Refusal>
+    ensures { number_in result ≡ clock_refusal paper_geometry program.now (whole c regs.now cache.now) store.now pins }
 {
-    let refused = record_rows::record_refusal(c, program, regs, cache, store);
-    if !record_rows::accepted(refused) {
-        return refused;
-    }
+    record_rows::record_refusal(c, program, regs, cache, store)?;
     if pins > 7 {
-        return Refusal::LineBytes;
+        return Err(Refusal::LineBytes);
     }
     if table_rows::clocks_refused(c.counts.clocks, 1) {
-        return Refusal::Clocks;
+        return Err(Refusal::Clocks);
     }
-    Refusal::Accepted
+    Ok(())
 }
 
 // A run: a line byte and an input word for each clock, and two buffers for the answers.
+#[tactic(auto, using(crate::proofs::Laws::rows), unfolding(trm_core::specs::Refusals::run_refusal))]
 pub fn run_refusal(
     c: Scalars,
     program: &[u32],
@@ -58,28 +57,25 @@ pub fn run_refusal(
     inputs: &[u32],
     bytes: &[u8],
     outs: &[u32],
-) -> Refusal
-    ensures { number_of result ≡ run_refusal paper_geometry program.now (whole c regs.now
-        cache.now)
+) -> Result<(), Refusal>
+    ensures { number_in result ≡ run_refusal paper_geometry program.now (whole c regs.now cache.now)
         store.now pins.now inputs.now bytes.now outs.now }
 {
-    let refused = record_rows::record_refusal(c, program, regs, cache, store);
-    if !record_rows::accepted(refused) {
-        return refused;
-    }
+    record_rows::record_refusal(c, program, regs, cache, store)?;
     if table_rows::line_bytes_refused(pins, inputs) {
-        return Refusal::LineBytes;
+        return Err(Refusal::LineBytes);
     }
     if table_rows::buffers_refused(pins, bytes, outs) {
-        return Refusal::Buffers;
+        return Err(Refusal::Buffers);
     }
     if table_rows::clocks_refused(c.counts.clocks, pins.len() as u64) {
-        return Refusal::Clocks;
+        return Err(Refusal::Clocks);
     }
-    Refusal::Accepted
+    Ok(())
 }
 
 // A look at one address.
+#[tactic(auto, using(crate::proofs::Laws::rows), unfolding(trm_core::specs::Refusals::look_refusal))]
 pub fn look_refusal(
     c: Scalars,
     program: &[u32],
@@ -87,21 +83,18 @@ pub fn look_refusal(
     cache: &Cache,
     store: &[u32],
     address: u32,
-) -> Refusal
-    ensures { number_of result ≡ look_refusal paper_geometry program.now (whole c regs.now
-        cache.now) store.now address }
+) -> Result<(), Refusal>
+    ensures { number_in result ≡ look_refusal paper_geometry program.now (whole c regs.now cache.now) store.now address }
 {
-    let refused = record_rows::record_refusal(c, program, regs, cache, store);
-    if !record_rows::accepted(refused) {
-        return refused;
-    }
+    record_rows::record_refusal(c, program, regs, cache, store)?;
     if address > 0xFFBF {
-        return Refusal::Place;
+        return Err(Refusal::Place);
     }
-    Refusal::Accepted
+    Ok(())
 }
 
 // A copy into a buffer.
+#[tactic(auto, using(crate::proofs::Laws::rows), unfolding(trm_core::specs::Refusals::copy_refusal))]
 pub fn copy_refusal(
     c: Scalars,
     program: &[u32],
@@ -109,27 +102,23 @@ pub fn copy_refusal(
     cache: &Cache,
     store: &[u32],
     buffer: &[u32],
-) -> Refusal
-    ensures { number_of result ≡ copy_refusal paper_geometry program.now (whole c regs.now
-        cache.now)
-        store.now buffer.now }
+) -> Result<(), Refusal>
+    ensures { number_in result ≡ copy_refusal paper_geometry program.now (whole c regs.now cache.now) store.now buffer.now }
 {
-    let refused = record_rows::record_refusal(c, program, regs, cache, store);
-    if !record_rows::accepted(refused) {
-        return refused;
-    }
+    record_rows::record_refusal(c, program, regs, cache, store)?;
     if buffer.len() != store.len() {
-        return Refusal::Buffers;
+        return Err(Refusal::Buffers);
     }
-    Refusal::Accepted
+    Ok(())
 }
 
 // A watch of a device.
-pub fn watch_refusal(device: u32) -> Refusal
-    ensures { number_of result ≡ watch_refusal device }
+#[tactic(auto, unfolding(trm_core::specs::Refusals::watch_refusal))]
+pub fn watch_refusal(device: u32) -> Result<(), Refusal>
+    ensures { number_in result ≡ watch_refusal device }
 {
     if device > 63 {
-        return Refusal::Place;
+        return Err(Refusal::Place);
     }
-    Refusal::Accepted
+    Ok(())
 }

@@ -10,14 +10,13 @@ ghost use Rattle.trm_core.specs.Clock.{clock_of};
 ghost use Rattle.trm_core.specs.Refusals.{clock_refusal, run_refusal};
 ghost use Rattle.trm_core.specs.Rule.{widths_ok, counts_ok};
 ghost use Rattle.trm_core.specs.Run.{run_of};
-ghost use Rattle.trm_call_refusals.specs.declared.refusal.Refusal.TheVariants.{Accepted};
 ghost use Rattle.trm_clock_scalars.specs.Steps.{Steps};
 ghost use Rattle.trm_run_machine.specs.Machine.{record_of, clocked, ran_to};
 
 use crate::clock_answer::Clock;
-use crate::inner::{clear, next_clock, one_clock, turns};
+use crate::inner::next_clock::Stepper;
+use crate::inner::{next_clock, one_clock, turns};
 use crate::machine::Machine;
-use trm_call_refusals::refusal::Refusal;
 use trm_clock_operands::inner::operands;
 use trm_clock_scalars::inner::{interrupt, scalars, steps};
 use trm_run_phases::inner::given::Given;
@@ -48,8 +47,8 @@ impl Machine {
             ≡ run_of paper_geometry program.now (record { machine = record_of self; store = store.old })
             pins.now inputs.now }
     {
-        clear::clear_bytes(bytes);
-        clear::clear_words(words);
+        bytes.fill(0);
+        words.fill(0);
         let began = Going {
             scalars: self.scalars,
             at: 0,
@@ -82,32 +81,28 @@ impl Machine {
     // One clock. Taking an interrupt, and a step of the multiplier or the divider, have methods of their own (D-20).
     pub fn clock(mut self, program: &[u32], store: &mut [u32], pins: u8, input: u32) -> Clock
         requires { clock_refusal paper_geometry program.now (record_of self) store.old pins ≡ 0 }
-        ensures { (result.refused ≡ Accepted) × (clocked result store.new
+        ensures { clocked result store.new
             ≡ clock_of paper_geometry program.now (record { machine = record_of self; store = store.old })
-            (record { line_byte = pins; input = input })) }
+            (record { line_byte = pins; input = input }) }
     {
         let c = self.scalars;
-        let to = next_clock::interrupt_now(c, pins);
-        if to != 0 {
+        if let Some(to) = next_clock::interrupt_now(c, pins) {
             return next_clock::quiet(self.acknowledge(to));
         }
         let w = operands::word_at(program, c.pc);
-        let unit = next_clock::unit_now(c, w, pins);
-        if unit == 8 {
-            return next_clock::quiet(self.multiplier_step(w));
+        match next_clock::unit_now(c, w, pins) {
+            Some(Stepper::Multiplier) => next_clock::quiet(self.multiplier_step(w)),
+            Some(Stepper::Divider) => next_clock::quiet(self.divider_step(w)),
+            None => self.other_clock(program, store, pins, input),
         }
-        if unit == 9 {
-            return next_clock::quiet(self.divider_step(w));
-        }
-        self.other_clock(program, store, pins, input)
     }
 
     // Any clock, on the record's parts.
     fn other_clock(mut self, program: &[u32], store: &mut [u32], pins: u8, input: u32) -> Clock
         requires { clock_refusal paper_geometry program.now (record_of self) store.old pins ≡ 0 }
-        ensures { (result.refused ≡ Accepted) × (clocked result store.new
+        ensures { clocked result store.new
             ≡ clock_of paper_geometry program.now (record { machine = record_of self; store = store.old })
-            (record { line_byte = pins; input = input })) }
+            (record { line_byte = pins; input = input }) }
     {
         let t = one_clock::one_clock(
             self.scalars,
@@ -121,7 +116,6 @@ impl Machine {
         self.scalars = t.scalars;
         Clock {
             machine: self, // as the clock leaves it
-            refused: Refusal::Accepted,
             byte: t.byte,
             word: t.word,
             finished: t.finished,

@@ -1,6 +1,6 @@
 // The record after a reset: zeros, and the length of the store.
 // Paper: "Reset makes everything zero and the cache empty; the store keeps its contents".
-// A refused reset returns the record of an empty store; no legal store is empty, so every call refuses that record (D-37).
+// For C a refused reset returns the record of an empty store; no legal store is empty, so every call refuses that record (D-37).
 ghost use Rattle.std.specs.Prelude.{◌≡◌, ◌^◌, ◌<◌, length};
 ghost use Rattle.trm_reference.specs.Geometry.{paper_geometry};
 ghost use Rattle.trm_core.specs.Record.{reset_of};

@@ -5,7 +5,6 @@
 use crate::inner::case_text::Case;
 use crate::inner::{digest, fields, lists, print};
 use std::io;
-use trm_call_refusals::inner::refusal_number::number_of;
 use trm_call_refusals::refusal::Refusal;
 use trm_calls::machine_calls;
 use trm_run_machine::clock_answer::Clock;
@@ -58,8 +57,12 @@ pub fn on_record(rt: &impl Print, c: Case, m: Machine) -> io::Result<Machine> {
     }
 }
 
-pub fn number(refused: Refusal) -> u64 {
-    number_of(refused) as u64
+// The number of a call's result: 0 if it was accepted.
+pub fn number_in<T>(outcome: &Result<T, Refusal>) -> u64 {
+    match outcome {
+        Ok(_) => 0,
+        Err(refused) => u32::from(*refused) as u64,
+    }
 }
 
 // Prints digests of the whole record and of the store.
@@ -74,8 +77,6 @@ pub fn show_answer(rt: &impl Print, byte: u8, word: u32) -> io::Result<()> {
 }
 
 fn show_clock(rt: &impl Print, r: Clock, store: &[u32]) -> io::Result<()> {
-    let refused = r.refused;
-    print::decimal(rt, number(refused))?;
     show_answer(rt, r.byte, r.word)?;
     print::decimal(rt, r.finished)?;
     show_all(rt, r.machine, store)
@@ -90,7 +91,14 @@ pub fn clock(
     program: &[u32],
     store: &mut [u32],
 ) -> io::Result<Machine> {
-    let r = machine_calls::clock(m, program, store, (c.w0 % 256) as u8, c.w1);
+    let outcome = machine_calls::clock(m, program, store, (c.w0 % 256) as u8, c.w1);
+    print::decimal(rt, number_in(&outcome))?;
+    let r = outcome.unwrap_or(Clock {
+        machine: m,
+        byte: 0,
+        word: 0,
+        finished: 0,
+    });
     show_clock(rt, r, store)?;
     Ok(r.machine)
 }

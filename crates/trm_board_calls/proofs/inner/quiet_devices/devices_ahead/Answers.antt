@@ -62,16 +62,6 @@ bounds-outs-i c =
     let k = c.loop-i.invariant _ _ _ _ _ c-pre.so in
     omega (arith, k.below, k.so.lengths.long, c.loop-i-test.true)
 
-pub overflow_add-i : goal.overflow_add-i
-overflow_add-i c =
-    let c-pre = c.requires in
-    let k = c.loop-i.invariant _ _ _ _ _ c-pre.so in
-    record { fits = omega (arith, k.so.lengths.many, k.below, c.loop-i-test.true) }
-
-pub loop-i-smaller : goal.loop-i-smaller
-loop-i-smaller c =
-    omega (arith, c.loop-i-test.true)
-
 pub loop-i-preserved : goal.loop-i-preserved
 loop-i-preserved c =
     λ p ws q₀ y total k. coming-on p _ _ ws q₀ y total _ _ _ _ _ _ _ (c.loop-i.invariant p ws q₀ y total k) c.loop-i-test.true _ _

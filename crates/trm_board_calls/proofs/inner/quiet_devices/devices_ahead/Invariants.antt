@@ -1,5 +1,5 @@
--- Invariant: the devices have followed the core so far (`Coming`). Measure: the clocks left.
-use Prim.Native.Nat.{ℕ, ◌-◌}
+-- Invariant: the devices have followed the core so far (`Coming`).
+use Prim.Native.Nat.{ℕ}
 use mathlib.Core.List.{List}
 use Rattle.trm_core.specs.Record.{Lent}
 use Rattle.trm_board_calls.specs.Running.{Stage, Coming}
@@ -10,6 +10,3 @@ invariant-loop-i l = (p ws : List ℕ) (q₀ : Stage) (y : Lent)
     (total : ℕ)
     → Coming p l.joined l.given ws q₀ y total l.to l.initial.d l.initial.count l.initial.i l.initial.levels l.initial.bytes l.initial.outs
     → Coming p l.joined l.given ws q₀ y total l.to l.d l.count l.i l.levels l.bytes l.outs
-
-abbrev pub decreases-loop-i : goal.decreases-loop-i
-decreases-loop-i l = l.to - l.i

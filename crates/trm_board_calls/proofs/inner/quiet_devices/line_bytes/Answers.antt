@@ -28,15 +28,6 @@ bounds-lines-i c =
     let c-pre = c.requires in
     omega (arith, c-pre.1, c.loop-i-test.true)
 
-pub overflow_add-i : goal.overflow_add-i
-overflow_add-i c =
-    let c-pre = c.requires in
-    record { fits = omega (arith, c-pre.1, c.loop-i-test.true) }
-
-pub loop-i-smaller : goal.loop-i-smaller
-loop-i-smaller c =
-    omega (arith, c.loop-i-test.true)
-
 pub loop-i-preserved : goal.loop-i-preserved
 loop-i-preserved c =
     let c-args = c.args in let c-pre = c.requires in (

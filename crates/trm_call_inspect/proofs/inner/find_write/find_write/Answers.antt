@@ -1,25 +1,16 @@
-use mathlib.Core.Path.{sym, ◌∙◌}
-use native.Mathlib.Omega.{arith}
-use Rattle.trm_call_inspect.proofs.Laws.Loops.{unseen-none, unseen-more, unseen-end, seen}
+-- The chain finds the first byte that shows the write (first_holds).
+use mathlib.Core.Path.{◌≡◌}
+use mathlib.Core.Bool.{true, false}
+use Rattle.std.proofs.Common.{rules, tests}
+use Rattle.std.proofs.lemmas.Iterator.{IsFirst-from_position, YieldsList-from_slice}
+use Rattle.trm_core.specs.Observe.{shows_write}
+use Rattle.trm_call_inspect.proofs.Laws.Loops.{first_holds, same_by}
 use Rattle.trm_call_inspect.proofs.inner.find_write.find_write.Goals as goal
 
-pub loop-i-init : goal.loop-i-init
-loop-i-init c = unseen-none _ _
-
-pub bounds-bytes-i : goal.bounds-bytes-i
-bounds-bytes-i c = omega arith
-
-pub returns-then-shows_write : goal.returns-then-shows_write
-returns-then-shows_write c = seen _ _ _ c.loop-i-test.true (sym c.shows_write.ensures ∙ c.if-shows_write.true)
-
-pub overflow_add-i : goal.overflow_add-i
-overflow_add-i c = omega arith
-
-pub loop-i-smaller : goal.loop-i-smaller
-loop-i-smaller c = omega arith
-
-pub loop-i-preserved : goal.loop-i-preserved
-loop-i-preserved c = unseen-more _ _ _ c.loop-i.invariant (sym c.shows_write.ensures ∙ c.if-shows_write.false)
-
 pub returns : goal.returns
-returns c = unseen-end _ _ _ c.loop-i.invariant c.loop-i-test.false
+returns c =
+    let first = IsFirst-from_position _ _ c.position-first.result (λ b. shows_write c.args.device b ≡ true)
+    (λ b. shows_write c.args.device b ≡ false) c.position-first.ensures.ran (YieldsList-from_slice c.args.bytes.now cc)
+    (λ x q k. search (rules, tests)) (λ x q k. search (rules, tests)) in
+    let same : c.map.result ≡ c.position-first.result = same_by _ _ (λ x r k. search rules) c.map.ensures.cases in
+    rw same (first_holds _ _ _ first)

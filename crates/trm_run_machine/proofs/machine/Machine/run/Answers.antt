@@ -13,31 +13,32 @@ all_turns-g-requires c =
       from = _;
       so = begun _ _ _ _ _ _ _ _ (c-pre)
           (shaped_by_type _ _ c.well_formed.0)
-          c.clear_bytes.ensures c.clear_words.ensures;
+          (c.fill.ensures.after (λ y e. e)) (c.fill-2.ensures.after (λ y e. e));
     }
 
 pub shape_of-store : goal.shape_of-store
 shape_of-store c =
     let c-pre = c.requires in
-    (c.all_turns-g.ensures.0 _ (begun _ _ _ _ _ _ _ _ (c-pre) (shaped_by_type _ _ c.well_formed.0) c.clear_bytes.ensures
-    c.clear_words.ensures)).long
+    (c.all_turns-g.ensures.0 _ (begun _ _ _ _ _ _ _ _ (c-pre) (shaped_by_type _ _ c.well_formed.0) (c.fill.ensures.after (λ y e. e))
+    (c.fill-2.ensures.after (λ y e. e)))).long
 
 pub shape_of-bytes : goal.shape_of-bytes
 shape_of-bytes c =
     let c-pre = c.requires in
     let q = run-passed _ _ _ _ _ _ _ (c-pre) in
-    (c.all_turns-g.ensures.0 _ (begun _ _ _ _ _ _ _ _ (c-pre) (shaped_by_type _ _ c.well_formed.0) c.clear_bytes.ensures
-    c.clear_words.ensures)).wide ∙ sym q.1.wide
+    (c.all_turns-g.ensures.0 _ (begun _ _ _ _ _ _ _ _ (c-pre) (shaped_by_type _ _ c.well_formed.0) (c.fill.ensures.after (λ y e. e))
+    (c.fill-2.ensures.after (λ y e. e)))).wide ∙ sym q.1.wide
 
 pub shape_of-words : goal.shape_of-words
 shape_of-words c =
     let c-pre = c.requires in
     let q = run-passed _ _ _ _ _ _ _ (c-pre) in
-    (c.all_turns-g.ensures.0 _ (begun _ _ _ _ _ _ _ _ (c-pre) (shaped_by_type _ _ c.well_formed.0) c.clear_bytes.ensures
-    c.clear_words.ensures)).broad ∙ sym q.1.broad
+    (c.all_turns-g.ensures.0 _ (begun _ _ _ _ _ _ _ _ (c-pre) (shaped_by_type _ _ c.well_formed.0) (c.fill.ensures.after (λ y e. e))
+    (c.fill-2.ensures.after (λ y e. e)))).broad ∙ sym q.1.broad
 
 pub returns : goal.returns
 returns c =
     let c-pre = c.requires in
     reached-end _ _ _ _ _ _ _ (c.all_turns-g.ensures.0 _ (begun _ _ _ _ _ _
-    _ _ (c-pre) (shaped_by_type _ _ c.well_formed.0) c.clear_bytes.ensures c.clear_words.ensures)) (c.all_turns-g.ensures.1 refl)
+    _ _ (c-pre) (shaped_by_type _ _ c.well_formed.0) (c.fill.ensures.after (λ y e. e)) (c.fill-2.ensures.after (λ y e. e))))
+    (c.all_turns-g.ensures.1 refl)
