@@ -1,7 +1,7 @@
 -- A run in progress: after i clocks its state and buffers are those of the clock history of the first i line bytes.
 -- Paper: "A run carries out one clock per line byte". Used in inner contracts only: no claim rests on it.
 --   Point, point   the state of a run        Reached p ls is x₀ q bs ws   a run from x₀ is in state q, with buffers bs and ws
---   At, Turned     what a turn requires and ensures (AtRun, TurnedRun: of what a run is given)        Under, Stands, Quietly   the same for a turn without answers
+--   At, Turned     what a turn requires and ensures        Under, Stands, Quietly   the same for a turn without answers
 --   Did   how far a turn goes: some clocks at least, or those before an access to a device
 --   Begins   the next clock begins an instruction        Room   what writing one clock's answer requires
 --   serial_at, with_serial   the registers in flight, and the scalars, after some clocks of steps
@@ -21,7 +21,6 @@ use Rattle.trm_core.specs.Run.{bytes_of, words_of}
 use Rattle.trm_core.specs.declared.record.Running.{Running}
 use Rattle.trm_core.specs.declared.record.Scalars.{Scalars}
 use Rattle.trm_clock_laws.specs.declared.inner.outcome.Clocked.{Clocked}
-use Rattle.trm_run_phases.specs.declared.inner.given.Given.{Given}
 use Rattle.trm_run_phases.specs.declared.inner.going.Going.{Going}
 use Rattle.trm_run_phases.specs.declared.inner.step_clocks.Serial.{Serial}
 
@@ -83,13 +82,6 @@ pub record At (p ls is : List ℕ) (q : Point) (bs ws : List ℕ) : Type 0 where
 -- every run in state q reaches q'
 abbrev pub Turned : List ℕ → List ℕ → List ℕ → Point → List ℕ → List ℕ → Point → List ℕ → List ℕ → Type 0
 Turned p ls is q bs ws q' bs' ws' = (x₀ : Lent) → Reached p ls is x₀ q bs ws → Reached p ls is x₀ q' bs' ws'
-
--- the same of what a run is given
-abbrev pub AtRun : Given → Point → List ℕ → List ℕ → Type 0
-AtRun x q bs ws = At x.program.now x.pins.now x.inputs.now q bs ws
-
-abbrev pub TurnedRun : Given → Point → List ℕ → List ℕ → Point → List ℕ → List ℕ → Type 0
-TurnedRun x q bs ws q' bs' ws' = Turned x.program.now x.pins.now x.inputs.now q bs ws q' bs' ws'
 
 -- how far a turn goes, from clock i to clock j: at least one clock; if it stops before an access to a device, perhaps none, but no answer
 pub record Did (stops : Bool) (i j : ℕ) (bs bs' : List ℕ) : Type 0 where

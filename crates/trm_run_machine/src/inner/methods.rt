@@ -19,9 +19,7 @@ use crate::inner::{next_clock, one_clock, turns};
 use crate::machine::Machine;
 use trm_clock_operands::inner::operands;
 use trm_clock_scalars::inner::{interrupt, scalars, steps};
-use trm_run_phases::inner::given::Given;
 use trm_run_phases::inner::going::Going;
-use trm_word::inner::charge::Charges;
 
 // The record after a run, and the number of instructions finished.
 #[derive(Clone, Copy)]
@@ -54,22 +52,17 @@ impl Machine {
             at: 0,
             finished: 0,
         };
-        let base = Charges::new();
-        let given = Given {
-            program,
-            pins,
-            inputs,
-            base: &base,
-            stops: false,
-        };
         let g = turns::all_turns(
             began,
-            &given,
+            program,
             &mut self.regs,
             &mut self.cache,
             store,
+            pins,
+            inputs,
             bytes,
             words,
+            false,
         );
         self.scalars = g.scalars;
         Finished {

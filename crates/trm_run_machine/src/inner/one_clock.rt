@@ -12,9 +12,7 @@ use crate::inner::turns;
 use trm_cache::record::Cache;
 use trm_clock_laws::inner::outcome::Clocked;
 use trm_core::record::Scalars;
-use trm_run_phases::inner::given::Given;
 use trm_run_phases::inner::going::Going;
-use trm_word::inner::charge::Charges;
 
 pub fn one_clock(
     c: Scalars,
@@ -42,15 +40,9 @@ pub fn one_clock(
         at: 0,
         finished: 0,
     };
-    let base = Charges::new();
-    let given = Given {
-        program,
-        pins: &alone,
-        inputs: &inputs,
-        base: &base,
-        stops: false,
-    };
-    let g = turns::all_turns(began, &given, regs, cache, store, &mut bytes, &mut outs);
+    let g = turns::all_turns(
+        began, program, regs, cache, store, &alone, &inputs, &mut bytes, &mut outs, false,
+    );
     Clocked {
         scalars: g.scalars,
         byte: bytes[0],

@@ -8,9 +8,7 @@ ghost use Rattle.trm_run_machine.specs.Quiet.{Silent, Able};
 use crate::inner::turns;
 use trm_cache::record::Cache;
 use trm_core::record::Scalars;
-use trm_run_phases::inner::given::Given;
 use trm_run_phases::inner::going::Going;
-use trm_word::inner::charge::Charges;
 
 // Returns the scalars, how many clocks were done (at most one for each line byte) and how many instructions they finished.
 pub fn quiet_clocks(
@@ -34,21 +32,16 @@ pub fn quiet_clocks(
         at: 0,
         finished: 0,
     };
-    let base = Charges::new();
-    let given = Given {
-        program,
-        pins,
-        inputs: &inputs[..n],
-        base: &base,
-        stops: true,
-    };
     turns::all_turns(
         began,
-        &given,
+        program,
         regs,
         cache,
         store,
+        pins,
+        &inputs[..n],
         &mut bytes[..n],
         &mut outs[..n],
+        true,
     )
 }

@@ -9,7 +9,7 @@ ghost use Rattle.trm_reference.specs.Access.{is_memory, place_of_word};
 ghost use Rattle.trm_reference.specs.Interrupt.{stalled, interrupt_chosen};
 ghost use Rattle.trm_core.specs.Record.{gathered, in_phase, advanced};
 ghost use Rattle.trm_core.specs.Rule.{counts_ok};
-ghost use Rattle.trm_run_phases.specs.Reached.{point, AtRun, TurnedRun, Did, Under, Quietly, Begins};
+ghost use Rattle.trm_run_phases.specs.Reached.{point, At, Turned, Did, Under, Quietly, Begins};
 
 use trm_cache::record::Cache;
 use trm_clock_bursts::inner::burst_clock;
@@ -18,7 +18,6 @@ use trm_clock_execute::inner::execute;
 use trm_clock_operands::inner::operands;
 use trm_clock_scalars::inner::{interrupt, scalars};
 use trm_core::record::Scalars;
-use trm_run_phases::inner::given::Given;
 use trm_run_phases::inner::going;
 use trm_run_phases::inner::going::Going;
 use trm_word::inner::address::Place;
@@ -58,33 +57,36 @@ fn branch(g: Going, regs: &[u32; 16], cache: &Cache, store: &[u32], w: u32, pins
 // before an access to a device leaves the second clock of that LD to its caller.
 fn load(
     g: Going,
-    run: &Given,
+    program: &[u32],
     regs: &mut [u32; 16],
     cache: &mut Cache,
     store: &mut [u32],
     w: u32,
+    pins: &[u8],
+    inputs: &[u32],
     bytes: &mut [u8],
     outs: &mut [u32],
+    stops: bool,
 ) -> Going
-    requires { AtRun run.now (point g regs.old cache.old store.old) bytes.old outs.old
-        × (w ≡ word_at run.now.program.now g.scalars.pc)
-        × Begins run.now.pins.now g × (operation w ≡ 12) }
-    ensures { TurnedRun run.now (point g regs.old cache.old store.old) bytes.old outs.old
-        (point result regs.new cache.new store.new) bytes.new outs.new × Did run.now.stops g.at result.at bytes.old bytes.new }
+    requires { At program.now pins.now inputs.now (point g regs.old cache.old store.old) bytes.old outs.old
+        × (w ≡ word_at program.now g.scalars.pc)
+        × Begins pins.now g × (operation w ≡ 12) }
+    ensures { Turned program.now pins.now inputs.now (point g regs.old cache.old store.old) bytes.old outs.old
+        (point result regs.new cache.new store.new) bytes.new outs.new × Did stops g.at result.at bytes.old bytes.new }
 {
     let c = g.scalars;
     let place = operands::place_of_word(c, regs, w, store.len() as u64);
     match place {
         Place::Device(d) => {
             let h = enters(g, 5, 0); // the device is read in the second clock
-            if run.stops {
+            if stops {
                 return h;
             }
             let at = h.at;
-            if !going::due(run.pins, at) {
+            if !going::due(pins, at) {
                 return h;
             }
-            let x = run.inputs[at];
+            let x = inputs[at];
             let next = execute::load(h.scalars, regs, w, x);
             bytes[at] = (d * 4 + 1) as u8;
             outs[at] = x;
@@ -103,7 +105,7 @@ fn load(
                 return going::quietly(g, next, 0);
             }
             let h = enters(g, 5, 0);
-            if !going::due(run.pins, h.at) {
+            if !going::due(pins, h.at) {
                 return h;
             }
             let x = cache.peek(store, a as usize);
@@ -130,39 +132,44 @@ fn store_waits(stops: bool, c: Scalars, regs: &[u32; 16], w: u32, n: u64) -> boo
 // Begins the instruction w, operations 8 to 15: a match on 11 to 15; the rest are 8 to 10 (D-27).
 fn begin(
     g: Going,
-    run: &Given,
+    program: &[u32],
     regs: &mut [u32; 16],
     cache: &mut Cache,
     store: &mut [u32],
     w: u32,
+    pins: &[u8],
+    inputs: &[u32],
     bytes: &mut [u8],
     outs: &mut [u32],
+    stops: bool,
 ) -> Going
-    requires { AtRun run.now (point g regs.old cache.old store.old) bytes.old outs.old
-        × (w ≡ word_at run.now.program.now g.scalars.pc)
-        × Begins run.now.pins.now g × (8 ≤ operation w) }
-    ensures { TurnedRun run.now (point g regs.old cache.old store.old) bytes.old outs.old
-        (point result regs.new cache.new store.new) bytes.new outs.new × Did run.now.stops g.at result.at bytes.old bytes.new }
+    requires { At program.now pins.now inputs.now (point g regs.old cache.old store.old) bytes.old outs.old
+        × (w ≡ word_at program.now g.scalars.pc)
+        × Begins pins.now g × (8 ≤ operation w) }
+    ensures { Turned program.now pins.now inputs.now (point g regs.old cache.old store.old) bytes.old outs.old
+        (point result regs.new cache.new store.new) bytes.new outs.new × Did stops g.at result.at bytes.old bytes.new }
 {
     let at = g.at;
     let op = w / 0x4000 % 16;
     match op {
         11 => {
-            let r = first::first_control(g.scalars, regs, cache, store, w, run.inputs[at]);
+            let r = first::first_control(g.scalars, regs, cache, store, w, inputs[at]);
             going::went(g, r, bytes, outs)
         }
-        12 => load(g, run, regs, cache, store, w, bytes, outs),
+        12 => load(
+            g, program, regs, cache, store, w, pins, inputs, bytes, outs, stops,
+        ),
         13 => {
-            if store_waits(run.stops, g.scalars, regs, w, store.len() as u64) {
+            if store_waits(stops, g.scalars, regs, w, store.len() as u64) {
                 return g;
             }
-            let r = first::first_store(g.scalars, regs, cache, store, w, run.inputs[at]);
+            let r = first::first_store(g.scalars, regs, cache, store, w, inputs[at]);
             going::went(g, r, bytes, outs)
         }
-        14 => branch(g, regs, cache, store, w, run.pins),
+        14 => branch(g, regs, cache, store, w, pins),
         15 => enters(g, 5, 0),
         _ => {
-            let r = first::first_arithmetic(g.scalars, regs, cache, store, w, run.inputs[at]);
+            let r = first::first_arithmetic(g.scalars, regs, cache, store, w, inputs[at]);
             going::went(g, r, bytes, outs)
         }
     }
@@ -200,29 +207,35 @@ fn at_rest(g: Going) -> Going
 // stops before an access to a device, until that is next.
 pub fn ready_turn(
     g: Going,
-    run: &Given,
+    program: &[u32],
     regs: &mut [u32; 16],
     cache: &mut Cache,
     store: &mut [u32],
+    pins: &[u8],
+    inputs: &[u32],
     bytes: &mut [u8],
     outs: &mut [u32],
+    stops: bool,
 ) -> Going
-    requires { AtRun run.now (point g regs.old cache.old store.old) bytes.old outs.old × Begins run.now.pins.now g }
-    ensures { TurnedRun run.now (point g regs.old cache.old store.old) bytes.old outs.old
-        (point result regs.new cache.new store.new) bytes.new outs.new × Did run.now.stops g.at result.at bytes.old bytes.new }
+    requires { At program.now pins.now inputs.now (point g regs.old cache.old
+        store.old) bytes.old outs.old × Begins pins.now g }
+    ensures { Turned program.now pins.now inputs.now (point g regs.old cache.old store.old) bytes.old outs.old
+        (point result regs.new cache.new store.new) bytes.new outs.new × Did stops g.at result.at bytes.old bytes.new }
 {
     let mut h = at_rest(g);
-    while h.at < run.pins.len() {
+    while h.at < pins.len() {
         let at = h.at;
-        if raised(h.scalars.status, run.pins[at]) {
+        if raised(h.scalars.status, pins[at]) {
             return h;
         }
-        let w = operands::word_at(run.program, h.scalars.pc);
+        let w = operands::word_at(program, h.scalars.pc);
         if w / 0x4000 % 16 < 8 {
             h = going::quietly(h, execute::short(h.scalars, regs, w), 1);
             continue;
         }
-        h = begin(h, run, regs, cache, store, w, bytes, outs);
+        h = begin(
+            h, program, regs, cache, store, w, pins, inputs, bytes, outs, stops,
+        );
         if h.at == at {
             return h; // the next clock writes to a device
         }

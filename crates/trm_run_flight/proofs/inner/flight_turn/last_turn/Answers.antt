@@ -17,13 +17,13 @@ pub returns-then-load_waits : goal.returns-then-load_waits
 returns-then-load_waits c =
     (λ x₀ k. k, did_none _ _ _ (both _ _ (λ s _. s) (sym c.load_waits.ensures ∙ c.if-load_waits.true)))
 
-pub offset_bounds-run-at : goal.offset_bounds-run-at
-offset_bounds-run-at c =
+pub offset_bounds-inputs-at : goal.offset_bounds-inputs-at
+offset_bounds-inputs-at c =
     let pre = c.requires in
     omega (arith, pre.2, pre.0.so.feed.many)
 
-pub bounds-run-at : goal.bounds-run-at
-bounds-run-at c =
+pub bounds-inputs-at : goal.bounds-inputs-at
+bounds-inputs-at c =
     let pre = c.requires in
     omega (arith, pre.2, pre.0.so.feed.fed)
 

@@ -14,8 +14,8 @@ returns-then-not-due c =
     let m = c.wait_ahead-h.ensures in
     none-due _ _ _ _ _ _ _ _ _ _ pre.0 pre.1 _ _ _ m.0 m.1 _ c.due.ensures m.3 pre.3 pre.4 c.if-not-due.true
 
-pub offset_bounds-run-at : goal.offset_bounds-run-at
-offset_bounds-run-at c =
+pub offset_bounds-inputs-at : goal.offset_bounds-inputs-at
+offset_bounds-inputs-at c =
     let pre = c.requires in
     let m = c.wait_ahead-h.ensures in
     omega (
@@ -24,8 +24,8 @@ offset_bounds-run-at c =
       pre.0.so.feed.many,
     )
 
-pub bounds-run-at : goal.bounds-run-at
-bounds-run-at c =
+pub bounds-inputs-at : goal.bounds-inputs-at
+bounds-inputs-at c =
     let pre = c.requires in
     let m = c.wait_ahead-h.ensures in
     omega (

@@ -8,8 +8,8 @@ slice_bounds-inputs-end c =
     let c-pre = c.requires in
     c-pre.few
 
-pub slice_bounds-given-end : goal.slice_bounds-given-end
-slice_bounds-given-end c =
+pub slice_bounds-all_turns-end : goal.slice_bounds-all_turns-end
+slice_bounds-all_turns-end c =
     let c-args = c.args in
     let c-pre = c.requires in
     zeros-count c-args.pins.now c-pre.few
@@ -19,8 +19,8 @@ slice_bounds-bytes-end c =
     let c-pre = c.requires in
     c-pre.few
 
-pub slice_bounds-all_turns-end : goal.slice_bounds-all_turns-end
-slice_bounds-all_turns-end c =
+pub slice_bounds-all_turns-end-2 : goal.slice_bounds-all_turns-end-2
+slice_bounds-all_turns-end-2 c =
     let c-args = c.args in
     let c-pre = c.requires in
     zeros-count c-args.pins.now c-pre.few
@@ -30,8 +30,8 @@ slice_bounds-outs-end c =
     let c-pre = c.requires in
     c-pre.few
 
-pub slice_bounds-all_turns-end-2 : goal.slice_bounds-all_turns-end-2
-slice_bounds-all_turns-end-2 c =
+pub slice_bounds-all_turns-end-3 : goal.slice_bounds-all_turns-end-3
+slice_bounds-all_turns-end-3 c =
     let c-args = c.args in let c-pre = c.requires in
     zeros-count c-args.pins.now c-pre.few
 

@@ -7,8 +7,8 @@ use Rattle.trm_run_phases.proofs.Laws.Next.{quiet-answered, few-done}
 use Rattle.trm_run_phases.proofs.Laws.Next.{under_at, good-at_turn}
 use Rattle.trm_run_machine.proofs.inner.turns.turn.Goals as goal
 
-pub bounds-run-at : goal.bounds-run-at
-bounds-run-at c =
+pub bounds-pins-at : goal.bounds-pins-at
+bounds-pins-at c =
     let c-pre = c.requires in
     c-pre.1
 

@@ -9,14 +9,14 @@ use Rattle.trm_clock_laws.proofs.Laws.First.{first-second}
 use native.Mathlib.Omega.{arith}
 use Rattle.trm_run_words.proofs.inner.words_turn.begin.Goals as goal
 
-pub offset_bounds-run-at : goal.offset_bounds-run-at
-offset_bounds-run-at c =
+pub offset_bounds-inputs-at : goal.offset_bounds-inputs-at
+offset_bounds-inputs-at c =
     let c-pre = c.requires in
     let b = c-pre.2 in
     omega (arith, b.more, c-pre.0.so.feed.many)
 
-pub bounds-run-at : goal.bounds-run-at
-bounds-run-at c =
+pub bounds-inputs-at : goal.bounds-inputs-at
+bounds-inputs-at c =
     let c-pre = c.requires in
     let b = c-pre.2 in
     omega (arith, b.more, c-pre.0.so.feed.fed)
@@ -51,14 +51,14 @@ pub returns-then-store_waits : goal.returns-then-store_waits
 returns-then-store_waits c =
     (λ x₀ k. k, did_none _ _ _ (stops_so _ _ _ c.store_waits.ensures c.if-store_waits.true))
 
-pub offset_bounds-run-at-in-13 : goal.offset_bounds-run-at-in-13
-offset_bounds-run-at-in-13 c =
+pub offset_bounds-inputs-at-in-13 : goal.offset_bounds-inputs-at-in-13
+offset_bounds-inputs-at-in-13 c =
     let c-pre = c.requires in
     let b = c-pre.2 in
     omega (arith, b.more, c-pre.0.so.feed.many)
 
-pub bounds-run-at-in-13 : goal.bounds-run-at-in-13
-bounds-run-at-in-13 c =
+pub bounds-inputs-at-in-13 : goal.bounds-inputs-at-in-13
+bounds-inputs-at-in-13 c =
     let c-pre = c.requires in
     let b = c-pre.2 in
     omega (arith, b.more, c-pre.0.so.feed.fed)
@@ -84,14 +84,14 @@ branch-g-requires c =
     let q = opens _ _ _ _ _ _ _ _ _ _ c-pre.0 c-pre.1 b in
     (q.under, b, c.in-14.is)
 
-pub offset_bounds-run-at-in_default : goal.offset_bounds-run-at-in_default
-offset_bounds-run-at-in_default c =
+pub offset_bounds-inputs-at-in_default : goal.offset_bounds-inputs-at-in_default
+offset_bounds-inputs-at-in_default c =
     let c-pre = c.requires in
     let b = c-pre.2 in
     omega (arith, b.more, c-pre.0.so.feed.many)
 
-pub bounds-run-at-in_default : goal.bounds-run-at-in_default
-bounds-run-at-in_default c =
+pub bounds-inputs-at-in_default : goal.bounds-inputs-at-in_default
+bounds-inputs-at-in_default c =
     let c-pre = c.requires in
     let b = c-pre.2 in
     omega (arith, b.more, c-pre.0.so.feed.fed)

@@ -35,8 +35,8 @@ enters-h-requires c =
     let q = opens _ _ _ _ _ _ _ _ _ _ c-pre.0 c-pre.1 b in
     (q.few.0, q.good.counts)
 
-pub returns-then-run : goal.returns-then-run
-returns-then-run c =
+pub returns-then-stops : goal.returns-then-stops
+returns-then-stops c =
     let c-pre = c.requires in
     let b = c-pre.2 in
     let q = opens _ _ _ _ _ _ _ _ _ _ c-pre.0 c-pre.1 b in
@@ -55,19 +55,19 @@ returns-then-not-due c =
     let e = c.enters-h.ensures in
     (λ x₀ k. entered _ _ _ _ _ _ b _ e d _ _ _ _ x₀ c-pre.1 k, did-quiet _ _ _ _ (rw e (omega arith)))
 
-pub offset_bounds-run-at : goal.offset_bounds-run-at
-offset_bounds-run-at c =
+pub offset_bounds-inputs-at : goal.offset_bounds-inputs-at
+offset_bounds-inputs-at c =
     let c-args = c.args in
     let c-pre = c.requires in
-    let y = due_true c.enters-h.result.at (length c-args.run.now.pins.now) (stalled (get_or c-args.run.now.pins.now c.enters-h.result.at
+    let y = due_true c.enters-h.result.at (length c-args.pins.now) (stalled (get_or c-args.pins.now c.enters-h.result.at
     0)) c.due.result c.due.ensures c.if-not-due.false in
     omega (arith, y.0, c-pre.0.so.feed.many)
 
-pub bounds-run-at : goal.bounds-run-at
-bounds-run-at c =
+pub bounds-inputs-at : goal.bounds-inputs-at
+bounds-inputs-at c =
     let c-args = c.args in
     let c-pre = c.requires in
-    let y = due_true c.enters-h.result.at (length c-args.run.now.pins.now) (stalled (get_or c-args.run.now.pins.now c.enters-h.result.at 0))
+    let y = due_true c.enters-h.result.at (length c-args.pins.now) (stalled (get_or c-args.pins.now c.enters-h.result.at 0))
     c.due.result c.due.ensures c.if-not-due.false in
     omega (arith, y.0, c-pre.0.so.feed.fed)
 
@@ -109,7 +109,7 @@ bounds-bytes-at c =
     let p = sym c.place_of_word-place.ensures ∙ c.in-Device.is in
     let d = device_first _ _ _ _ _ q.facts b.idle c-pre.3 _ p in
     let e = c.enters-h.ensures in
-    let y = due_true c.enters-h.result.at (length c-args.run.now.pins.now) (stalled (get_or c-args.run.now.pins.now c.enters-h.result.at 0))
+    let y = due_true c.enters-h.result.at (length c-args.pins.now) (stalled (get_or c-args.pins.now c.enters-h.result.at 0))
     c.due.result c.due.ensures c.if-not-due.false in
     let r = entered _ _ _ _ _ _ b _ e d _ _ _ _ _ c-pre.1 c-pre.0.so in
     omega (arith, y.0, r.wide)
@@ -118,7 +118,7 @@ pub offset_bounds-outs-at : goal.offset_bounds-outs-at
 offset_bounds-outs-at c =
     let c-args = c.args in
     let c-pre = c.requires in
-    let y = due_true c.enters-h.result.at (length c-args.run.now.pins.now) (stalled (get_or c-args.run.now.pins.now c.enters-h.result.at 0))
+    let y = due_true c.enters-h.result.at (length c-args.pins.now) (stalled (get_or c-args.pins.now c.enters-h.result.at 0))
     c.due.result c.due.ensures c.if-not-due.false in
     omega (arith, y.0, c-pre.0.so.feed.many)
 
@@ -131,7 +131,7 @@ bounds-outs-at c =
     let p = sym c.place_of_word-place.ensures ∙ c.in-Device.is in
     let d = device_first _ _ _ _ _ q.facts b.idle c-pre.3 _ p in
     let e = c.enters-h.ensures in
-    let y = due_true c.enters-h.result.at (length c-args.run.now.pins.now) (stalled (get_or c-args.run.now.pins.now c.enters-h.result.at 0))
+    let y = due_true c.enters-h.result.at (length c-args.pins.now) (stalled (get_or c-args.pins.now c.enters-h.result.at 0))
     c.due.result c.due.ensures c.if-not-due.false in
     let r = entered _ _ _ _ _ _ b _ e d _ _ _ _ _ c-pre.1 c-pre.0.so in
     omega (arith, y.0, r.broad)
@@ -145,7 +145,7 @@ quietly-requires c =
     let p = sym c.place_of_word-place.ensures ∙ c.in-Device.is in
     let d = device_first _ _ _ _ _ q.facts b.idle c-pre.3 _ p in
     let e = c.enters-h.ensures in
-    let y = due_true c.enters-h.result.at (length c-args.run.now.pins.now) (stalled (get_or c-args.run.now.pins.now c.enters-h.result.at 0))
+    let y = due_true c.enters-h.result.at (length c-args.pins.now) (stalled (get_or c-args.pins.now c.enters-h.result.at 0))
     c.due.result c.due.ensures c.if-not-due.false in
     let r = entered _ _ _ _ _ _ b _ e d _ _ _ _ _ c-pre.1 c-pre.0.so in
     let k = few-done _ _ _ _ _ _ _ _ _ _ r y.0 in
@@ -250,7 +250,7 @@ quietly-requires-in-Memory c =
     let on = sym c.cache_on.ensures ∙ c.if-not-cache_on.false in
     let d = hit-first _ _ _ _ _ q.facts b.idle c-pre.3 _ p on _ c.line_holds.ensures c.if-not-line_holds.false in
     let e = c.enters-h-in-Memory.ensures in
-    let y = due_true c.enters-h-in-Memory.result.at (length c-args.run.now.pins.now) (stalled (get_or c-args.run.now.pins.now c.enters-h-in-Memory.result.at
+    let y = due_true c.enters-h-in-Memory.result.at (length c-args.pins.now) (stalled (get_or c-args.pins.now c.enters-h-in-Memory.result.at
     0)) c.due-in-Memory.result c.due-in-Memory.ensures c.if-not-due-2.false in
     let r = entered _ _ _ _ _ _ b _ e d _ _ _ _ _ c-pre.1 c-pre.0.so in
     let k = few-done _ _ _ _ _ _ _ _ _ _ r y.0 in
@@ -266,7 +266,7 @@ returns-else-not-due c =
     in
     let d = device_first _ _ _ _ _ q.facts b.idle c-pre.3 _ p in
     let e = c.enters-h.ensures in
-    let y = due_true c.enters-h.result.at (length c-args.run.now.pins.now) (stalled (get_or c-args.run.now.pins.now c.enters-h.result.at 0))
+    let y = due_true c.enters-h.result.at (length c-args.pins.now) (stalled (get_or c-args.pins.now c.enters-h.result.at 0))
     c.due.result c.due.ensures c.if-not-due.false in (
       λ x₀ k. let r = entered _ _ _ _ _ _ b _ e d _ _ _ _ x₀ c-pre.1 k in answered _ _ _ x₀ _ _ _ _ _ _ r y.0 (shows c.load-next.result _ _)
           _ _ _ (last-here _ _ _ x₀ _ _ _ _ _ _ r y.0 _ (word_next _ _ _ _ _ c-args.store.now b _ e d _ c-pre.1) y.1
@@ -275,7 +275,7 @@ returns-else-not-due c =
           v. place_of_word c-args.w v (length c-args.store.now)) (seen _ _ _ _ _ c-args.store.now b _ e d) ∙ p) (shows
           c.load-next.result _ _) _
           _ refl c.load-next.ensures.0 c.load-next.ensures.1)) _ _ _ c.quietly.ensures refl refl,
-      did-all _ _ _ _ _ c.if-run.false (rw (c.quietly.ensures, e) (omega arith)),
+      did-all _ _ _ _ _ c.if-stops.false (rw (c.quietly.ensures, e) (omega arith)),
     )
 
 pub returns-else-not-due-2 : goal.returns-else-not-due-2
@@ -287,7 +287,7 @@ returns-else-not-due-2 c =
     let on = sym c.cache_on.ensures ∙ c.if-not-cache_on.false in
     let d = hit-first _ _ _ _ _ q.facts b.idle c-pre.3 _ p on _ c.line_holds.ensures c.if-not-line_holds.false in
     let e = c.enters-h-in-Memory.ensures in
-    let y = due_true c.enters-h-in-Memory.result.at (length c-args.run.now.pins.now) (stalled (get_or c-args.run.now.pins.now c.enters-h-in-Memory.result.at
+    let y = due_true c.enters-h-in-Memory.result.at (length c-args.pins.now) (stalled (get_or c-args.pins.now c.enters-h-in-Memory.result.at
     0)) c.due-in-Memory.result c.due-in-Memory.ensures
     c.if-not-due-2.false in (
       λ x₀ k. ended _ _ _ _ _ _ b _ e d y.0 y.1 _ _ (λ i. load-made _ _ _ _ _ _ i c-pre.3 _ _

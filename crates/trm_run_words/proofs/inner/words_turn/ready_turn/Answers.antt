@@ -32,8 +32,8 @@ loop-h-init c =
       λ _. refl,
     )
 
-pub bounds-run-at : goal.bounds-run-at
-bounds-run-at c =
+pub bounds-pins-at : goal.bounds-pins-at
+bounds-pins-at c =
     c.loop-h-test.true
 
 pub shape_of-store-then-raised : goal.shape_of-store-then-raised
@@ -59,7 +59,7 @@ returns-then-raised c =
     let n = c.loop-h.invariant in
     let e = c.at_rest-h.ensures in (
       turned-from _ _ _ c-args.g _ _ _ _ _ _ a e _ _ _ n.0,
-      did-since _ _ _ _ _ (past-raised c-args.run.now.pins.now c-args.g c.loop-h.h.at c.loop-h.h.scalars.status c.raised.result
+      did-since _ _ _ _ _ (past-raised c-args.pins.now c-args.g c.loop-h.h.at c.loop-h.h.scalars.status c.raised.result
           b (subst (λ (t : Going). t.at ≤
           c.loop-h.h.at) e n.2) (subst (λ (t : Going). c.loop-h.h.at ≡ t.at → c.loop-h.h.scalars.status ≡ t.scalars.status) e n.3)
           c.raised.ensures c.if-raised.true) n.4,
@@ -106,8 +106,8 @@ loop-h-preserved-then-w-lt8 c =
     let n = c.loop-h.invariant in
     let e = c.at_rest-h.ensures in
     let ah = at_from _ _ _ c-args.g _ _ _ _ _ _ a e _ _ _ n.0 in
-    let y = unraised (stalled (get_or c-args.run.now.pins.now c.loop-h.h.at 0))
-    (interrupt_chosen c.loop-h.h.scalars.status (get_or c-args.run.now.pins.now c.loop-h.h.at 0)) c.raised.result c.raised.ensures
+    let y = unraised (stalled (get_or c-args.pins.now c.loop-h.h.at 0))
+    (interrupt_chosen c.loop-h.h.scalars.status (get_or c-args.pins.now c.loop-h.h.at 0)) c.raised.result c.raised.ensures
     c.if-raised.false in
     let gd = good-at_turn _ _ _ _ _ _ _ _ _ _ ah c.word_at-w.ensures in
     let f = facts _ _ _ _ _ gd in (
@@ -137,8 +137,8 @@ begin-h-requires c =
     let n = c.loop-h.invariant in
     let e = c.at_rest-h.ensures in
     let ah = at_from _ _ _ c-args.g _ _ _ _ _ _ a e _ _ _ n.0 in
-    let y = unraised (stalled (get_or c-args.run.now.pins.now c.loop-h.h.at 0))
-    (interrupt_chosen c.loop-h.h.scalars.status (get_or c-args.run.now.pins.now c.loop-h.h.at 0)) c.raised.result
+    let y = unraised (stalled (get_or c-args.pins.now c.loop-h.h.at 0))
+    (interrupt_chosen c.loop-h.h.scalars.status (get_or c-args.pins.now c.loop-h.h.at 0)) c.raised.result
     c.raised.ensures c.if-raised.false in (
       ah,
       c.word_at-w.ensures,
