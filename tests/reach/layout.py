@@ -30,9 +30,15 @@ class Layout:
     def is_mark(self, at, *texts):
         return 0 <= at < len(self.tokens) and self.tokens[at].kind != 'string' and self.tokens[at].text in texts
 
-    def is_call(self, at):
-        """Whether a name is that of a method that is called."""
-        return self.is_mark(at - 1, '.') and self.is_mark(at + 1, '(')
+    def arguments_of(self, at):
+        """The index of the bracket with the arguments of a method that is called by the name here; 0 if none is."""
+        if not self.is_mark(at - 1, '.'):
+            return 0
+        at += 1
+        if self.is_mark(at, '::'):  # type arguments
+            while not self.is_mark(at, '(', ';'):
+                at += 1
+        return at if self.is_mark(at, '(') else 0
 
     def text(self, begin, end):
         return text_of(self.tokens[begin:end])

@@ -21,23 +21,27 @@ from layout import BRANCHING, COMPARING, Layout
 # Every keyword of Rust that begins a form; only those known here may occur.
 RUST = set('''as async await break const continue crate dyn else enum extern fn for if impl in let loop macro_rules match mod move mut pub
     ref return self static struct super trait type union unsafe use where while yield'''.split())
-KNOWN = set('''as break const continue crate dyn else enum extern fn for if impl in let match mod move mut pub return self struct super
-    trait use where while'''.split())
+KNOWN = set('''as break const continue crate dyn else enum extern fn for if impl in let loop match mod move mut pub ref return self struct
+    super trait type use where while'''.split())
 # Macros that take the handle of the program, as `println!(rt; "..")`; the stand-in of std has them, too.
 PRINTING = {'print', 'println', 'eprint', 'eprintln'}
 # Methods with a closure, or a function, whose outcome decides what they do.
 DECIDING = set('''all any filter find is_none_or is_some_and position rposition skip_while take_while'''.split())
 # Methods of an iterator that ask it for what it has, to the end or to an element that decides.
-DRAINING = set('''all any collect count find find_map fold for_each last max_by_key min_by_key position product rposition sum'''.split())
-# Methods of an Option or Result with a way of its own for None or Err; `map` and `filter` may be those of an iterator.
+DRAINING = set('''all any collect count find find_map fold for_each last max_by_key min_by_key partition position product reduce rposition
+    sum unzip'''.split())
+# Methods of an Option or Result with a way of its own for None or Err.
 CHOOSING = set('''and and_then filter is_none_or is_some_and map map_err map_or map_or_else ok_or ok_or_else or or_else unwrap_or
     unwrap_or_default unwrap_or_else'''.split())
-ITERATING = set('chars chunks chunks_exact enumerate filter into_iter iter iter_mut map rev skip step_by take windows zip'.split())
+# Methods that an iterator has as well as an Option, and others that give an iterator.
+SHARED = set('cloned copied filter flat_map flatten inspect map take zip'.split())
+ITERATING = set('chars chunks chunks_exact enumerate into_iter iter iter_mut rev skip skip_while step_by take_while windows'.split())
 # Methods that give one of two values; the stand-in has those with counters.
 PICKING = {'min': ('the operand before it', 'the other'), 'max': ('the operand before it', 'the other'),
            'saturating_sub': ('a difference', 'zero in place of one')}
 # Methods with ways of their own that have no counters here yet.
-UNKNOWN = set('clamp saturating_add saturating_mul saturating_pow max_by min_by try_fold try_for_each retain sort_by'.split())
+UNKNOWN = set('''clamp contains ends_with max_by min_by retain saturating_add saturating_mul saturating_pow sort_by starts_with try_fold
+    try_for_each'''.split())
 NUMBERS = {'u8', 'u16', 'u32', 'u64', 'u128', 'usize', 'i8', 'i16', 'i32', 'i64', 'i128', 'isize'}
 
 
@@ -53,6 +57,11 @@ class Place:
 
     def __str__(self):
         return f'crates/{self.path}:{self.line}: {self.function}: {self.text}'
+
+
+def is_kept(at, first, after, left, right):
+    """Whether a token stays where of the tokens from `first` to before `after` only those from `left` to before `right` do."""
+    return at < first or left <= at < right or after <= at
 
 
 class Planter(Layout):
@@ -284,29 +293,25 @@ class Planter(Layout):
 
     def ways(self, begin, end, name, is_alone=True):
         """The counters where a pattern fits: one, or one for each alternative and for each end of a range; none if a guard has them."""
-        found = [*self.alternatives(begin, end), *self.range_ends(begin, end)]
+        alternatives = [*self.alternatives(begin, end)]
+        found = [*alternatives, *self.range_ends(begin, end)]
         if not found:
             return self.hit(begin, name) if is_alone else ''
         self.surround(begin, end, ' ref reach_value @ (', ')')
         counters = []
-        for first, after, words in found:
-            piece = ' '.join(words)
-            fits = ' '.join([*self.words(begin, first), piece, *self.words(after, end)])
-            counters.append(f' if matches!(reach_value, {fits}) {{{self.hit(begin, f"{name}, {piece}".replace(": ", ":"))} }}')
+        for one in found:
+            around = [other for other in alternatives if other[2] <= one[0] and one[1] <= other[3]]
+            fits = ' '.join(self.tokens[i].text for i in range(begin, end) if all(is_kept(i, *other) for other in (one, *around)))
+            counters.append(f' if matches!(reach_value, {fits}) {{{self.hit(begin, f"{name}, {self.text(*one[2:])}")} }}')
         return ''.join(counters)
 
-    def words(self, begin, end):
-        return [token.text for token in self.tokens[begin:end]]
-
     def alternatives(self, begin, end):
-        """(begin of all, end of all, words of one) for each alternative of each part of a pattern, also of the parts inside brackets."""
+        """(begin of all, end of all, begin of one, end of it) for each alternative of a pattern, also inside of its brackets."""
         first, here, bars = begin, begin, []
         while here <= end:
             if here == end or self.is_mark(here, ',', ':', '@'):
-                cuts = [first - 1, *bars, here]
-                for left, right in zip(cuts, cuts[1:]):
-                    if bars:
-                        yield first, here, self.words(left + 1, right)
+                cuts = [first - 1, *bars, here] if bars else []
+                yield from ((first, here, left + 1, right) for left, right in zip(cuts, cuts[1:]))
                 first, bars = here + 1, []
             elif self.is_mark(here, '|'):
                 bars.append(here)
@@ -324,9 +329,9 @@ class Planter(Layout):
                 self.stop(at, 'a range in a form that is not known')
             first, after = at - left, at + 1 + right
             if left:
-                yield first, after, self.words(first, at)
+                yield first, after, first, at
             if right:
-                yield first, after, self.words(at + 1, after)
+                yield first, after, at + 1, after
 
     def is_end(self, at):
         """Whether a token ends a range: a literal or a constant."""
@@ -343,44 +348,50 @@ class Planter(Layout):
         begin = self.find(at + 1, body, 'in') + 1
         if begin > body or self.is_mark(at + 1, '<') or [*self.alternatives(at + 1, begin - 1)]:
             self.stop(at, 'a `for` in a form that is not known')
-        turn, end = self.new_places(at, f'for {self.text(at + 1, body)}', 'body', 'end')
-        self.surround(begin, body, ' reach::each(', f', {turn}, {end})')
+        self.plant_turns(begin, body, f'for {self.text(at + 1, body)}', 'body', 'end')
 
     def skip_header(self, at):
         """The `for` between `impl` and its `{` is no loop."""
         if at == 0 or self.is_mark(at - 1, '}', '{', ';', ']'):
             self.known.update(i for i in range(at, self.next_open(at)) if self.is_mark(i, 'for'))
 
-    def plant_method(self, at):
-        """Counters for a method that has ways of its own."""
-        name, dot = self.tokens[at].text, at - 1
+    def plant_method(self, at, opening):
+        """Counters for a method that has ways of its own; its arguments begin at the opening bracket."""
+        name, dot, end = self.tokens[at].text, at - 1, self.partners[opening]
         if name in UNKNOWN:
             self.stop(at, f'`.{name}(` has ways of its own, and no counters are planted for it here')
-        has_value = self.partners[at + 1] > at + 2
+        if name not in {'then', 'then_some', *DRAINING, *CHOOSING, *PICKING, *DECIDING}:
+            return
         begin = self.receiver_of(dot)
         text = self.text(begin, at + 1)
         if name in ('then', 'then_some'):
             self.plant_outcomes(begin, dot, f'{name} of {self.text(begin, dot)}')
-        elif name in DRAINING or (name in ('min', 'max') and not has_value):
-            turn, end = self.new_places(at, text, 'a turn', 'the end')
-            self.surround(begin, dot, ' reach::each(', f', {turn}, {end})')
-        elif name in CHOOSING and not self.is_iterator(begin, dot):
+        elif name in DRAINING or (name in ('min', 'max') and end == opening + 1):
+            self.plant_turns(begin, dot, text, 'a turn', 'the end')
+        elif name in CHOOSING and not (name in SHARED and self.is_iterator(begin, dot)):
             value, none = self.new_places(at, text, 'a value', 'none')
             self.surround(begin, dot, ' reach::tried(', f', {value}, {none})')
         elif name in PICKING:
-            one, other = self.new_places(at, self.text(begin, self.past(at + 1)), *PICKING[name])
+            one, other = self.new_places(at, self.text(begin, end + 1), *PICKING[name])
             self.replace(at, f'reach_{name}')
-            self.add_behind(at + 1, f'{one}, {other}, ')
-        if name in DECIDING and not self.is_closure(at + 2):
-            end = self.partners[at + 1]
-            end -= self.is_mark(end - 1, ',')
-            yes, no = self.new_places(at, f'{name} {self.text(at + 2, end)}', 'true', 'false')
-            self.surround(at + 2, end, ' |reach_one| reach::either((', f')(reach_one), {yes}, {no})')
+            self.add_behind(opening, f'{one}, {other}, ')
+        if name in DECIDING and not self.is_closure(opening + 1):
+            yes, no = self.new_places(at, f'{name} {self.text(opening + 1, end)}', 'true', 'false')
+            self.surround(opening + 1, end, ' |reach_one| reach::either((', f')(reach_one), {yes}, {no})')
+
+    def plant_turns(self, begin, end, text, *ways):
+        """Counters for a turn of an iterator and for its end."""
+        turn, last = self.new_places(begin, text, *ways)
+        self.surround(begin, end, ' reach::each(', f', {turn}, {last})')
 
     def is_iterator(self, begin, end):
-        """Whether an operand is a range, or a method that gives an iterator is called in it; the build shows where this is wrong."""
-        inside = self.is_mark(begin, '(') and self.find(begin + 1, self.partners[begin], '..', '..=') < self.partners[begin]
-        return inside or any(self.is_mark(i, *ITERATING) and self.is_call(i) for i in range(begin, end))
+        """Whether an operand is an iterator: a range, or what its last method gives. The build shows where this is wrong."""
+        at = end
+        while at > begin:
+            at = self.openings.get(at - 1, at - 1)
+            if self.arguments_of(at) and not self.is_mark(at, *SHARED):
+                return self.is_mark(at, *ITERATING)
+        return self.is_mark(begin, '(') and self.find(begin + 1, self.partners[begin], '..', '..=') < self.partners[begin]
 
     def is_closure(self, at):
         return self.is_mark(at, '|', '||') or (self.is_mark(at, 'move') and self.is_mark(at + 1, '|', '||'))
@@ -421,11 +432,11 @@ class Planter(Layout):
                 self.replace(at, f'reach::{text}')
             else:
                 self.stop(at, f'a macro: {text}!')
-        elif self.is_call(at):
-            self.plant_method(at)
+        elif opening := self.arguments_of(at):
+            self.plant_method(at, opening)
         elif text == 'from' and self.is_mark(at - 2, *NUMBERS) and self.is_mark(at + 1, '('):
             self.plant_number(at + 2, self.partners[at + 1])
-        elif text == 'as' and self.is_mark(at - 1, ')'):
+        elif text == 'as' and self.is_mark(at - 1, ')') and self.is_operand_next(self.openings[at - 1]):
             self.plant_number(self.openings[at - 1] + 1, at - 1)
 
     def check_mark(self, at):
