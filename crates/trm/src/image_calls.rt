@@ -1,9 +1,8 @@
 // The check of an image and the payload of a record, for C.
 // Paper: "Images and the listing program"; "Records are checked one after another, each down the table, and the first fault counts".
-// They are `check` and `payload` of trm_image, with the number in place of the enum, and the payload given by its start and length (D-75).
+// They are `check` and `payload` of trm_image, with a number in place of the result, and the payload given by its start and length (D-75).
 ghost use Rattle.trm.specs.Promises.{ImageNumbered, PayloadPart};
 
-use trm_image::inner::fault_number;
 use trm_image::reader;
 
 // `at` is the offset where the record at fault begins; 0 if accepted, too long or empty.
@@ -18,11 +17,12 @@ pub struct ImageAnswer {
 pub fn trm_image_check(image: &[u8], words: usize) -> ImageAnswer
     ensures { ImageNumbered words image.now result }
 {
-    let r = reader::check(image, words);
-    let fault = r.fault;
-    ImageAnswer {
-        number: fault_number::number_of(fault),
-        at: r.at as u64,
+    match reader::check(image, words) {
+        Ok(()) => ImageAnswer { number: 0, at: 0 },
+        Err(refusal) => ImageAnswer {
+            number: u32::from(refusal.fault),
+            at: refusal.at as u64,
+        },
     }
 }
 
@@ -39,18 +39,16 @@ pub struct PartAnswer {
 pub fn trm_image_payload(image: &[u8], at: usize) -> PartAnswer
     ensures { PayloadPart image.now at result }
 {
-    let fault = reader::payload_fault(image, at);
-    let payload = reader::payload(image, at);
-    if !reader::accepted(fault) {
-        return PartAnswer {
-            number: fault_number::number_of(fault),
+    match reader::payload(image, at) {
+        Ok(payload) => PartAnswer {
+            number: 0,
+            start: (at + 6) as u64,
+            length: payload.len() as u64,
+        },
+        Err(fault) => PartAnswer {
+            number: u32::from(fault),
             start: 0,
             length: 0,
-        };
-    }
-    PartAnswer {
-        number: 0,
-        start: (at + 6) as u64,
-        length: payload.len() as u64,
+        },
     }
 }

@@ -1,8 +1,9 @@
 -- The laws, a topic per file.
--- `Words`: consecutive words; `Parts`: a payload as a slice of the image; `Clean`: a record without a fault; `Walk`: record by record;
--- `Places`: where records begin; `Runs`: runs to the end; `Accepted`: an accepted image; `Load`: words copied into an array; `First`: the
--- first fault; `Bytes`, `Written`, `Described`: an accepted image is its content written out; `Readback`, `Unfaulted`, `Complete`: what is
--- written out is accepted and read back; `Tables`: the computed tables.
+-- `Numbers`: of faults; `Words`: consecutive words; `Parts`: a payload as a slice of the image; `Clean`: a record without a fault; `Walk`:
+-- record by record; `Places`: where records begin; `Runs`: runs to the end; `Accepted`: an accepted image; `Load`: words copied into an
+-- array; `First`: the first fault; `Bytes`, `Written`, `Described`: an accepted image is its content written out; `Readback`, `Unfaulted`,
+-- `Complete`: what is written out is accepted and read back; `Tables`: the computed tables.
+pub mod Numbers
 pub mod Words
 pub mod Parts
 pub mod Clean

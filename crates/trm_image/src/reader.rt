@@ -1,86 +1,53 @@
 // The calls on an image: the check of a whole image, and a record's payload as a slice of the image.
 // Paper: "checks it whole"; "The reader hands back the payload as a part of the image itself".
 // Any bytes, any offset and any store length give a result; nothing is written.
-ghost use Rattle.std.specs.Prelude.{◌≡◌, eqb};
-ghost use Rattle.trm_image.specs.Numbers.{number_of};
+ghost use Rattle.std.specs.Prelude.{◌≡◌, IfOk};
+ghost use Rattle.trm_image.specs.Numbers.{refusal_number};
 ghost use Rattle.trm_image.specs.Refused.{payload_fault};
 ghost use Rattle.trm_image.specs.Promises.{CheckHolds, payload_gives};
 
-use crate::fault::{Checked, Fault};
+use crate::fault::{Fault, Refusal};
 use crate::inner::{bytes, image_rows, payload_part};
 
-// Whether there is no fault.
-pub fn accepted(fault: Fault) -> bool
-    ensures { result ≡ eqb (number_of fault) 0 }
-{
-    match fault {
-        Fault::Accepted => true,
-        Fault::Frame => false,
-        Fault::Kind => false,
-        Fault::Program => false,
-        Fault::Store => false,
-        Fault::LineBytes => false,
-    }
-}
-
-// Checks a whole image for a store of `words` words: the first fault, and where its record begins.
-pub fn check(image: &[u8], words: usize) -> Checked
+// Checks a whole image for a store of `words` words: the first fault, if any, and where its record begins.
+// A `while`, as each record says where the next one begins.
+#[tactic(auto, unfolding(crate::specs::Refused::image_fault, crate::specs::Records::records_of))]
+pub fn check(image: &[u8], words: usize) -> Result<(), Refusal>
     ensures { CheckHolds words image.now result }
 {
     if image.len() > 65536 {
-        return Checked {
-            fault: Fault::Frame,
-            at: 0,
-        };
+        return Err(Refusal::of_image(Fault::Frame));
     }
-    if image.len() == 0 {
-        return Checked {
-            fault: Fault::Kind,
-            at: 0,
-        };
+    if image.is_empty() {
+        return Err(Refusal::of_image(Fault::Kind));
     }
     let mut at: usize = 0;
     let mut before: u32 = 0;
     while at < image.len() {
-        let fault = image_rows::fault_at(image, before, at, words);
-        if !accepted(fault) {
-            return Checked {
-                fault: fault,
-                at: at,
-            };
+        if let Err(fault) = image_rows::fault_at(image, before, at, words) {
+            return Err(Refusal { fault, at });
         }
         before = bytes::half_at(image, at + 4);
-        at = at + 6 + bytes::word_at(image, at) as usize;
+        at += 6 + bytes::word_at(image, at) as usize;
     }
-    Checked {
-        fault: Fault::Accepted,
-        at: 0,
-    }
+    Ok(())
 }
 
-// Why the payload of the record at `at` is refused: the image is too long, no record begins there, or the record is cut short.
-pub fn payload_fault(image: &[u8], at: usize) -> Fault
-    ensures { number_of result ≡ payload_fault image.now at }
+// The payload of the record at `at` as a slice of the image. It is refused if the image is too long, if no record begins there, or if the
+// record is cut short.
+#[tactic(auto, unfolding(crate::specs::Refused::payload_fault, crate::specs::Promises::payload_gives))]
+pub fn payload(image: &[u8], at: usize) -> Result<&[u8], Fault>
+    ensures number { refusal_number result ≡ payload_fault image.now at }
+    ensures part { IfOk result (λ part. part.now ≡ payload_gives image.now at) }
 {
     if image.len() > 65536 {
-        return Fault::Frame;
+        return Err(Fault::Frame);
     }
     if !payload_part::record_at(image, at) {
-        return Fault::Kind;
+        return Err(Fault::Kind);
     }
     if image_rows::cut_short(image, at) {
-        return Fault::Frame; // its end is missing
+        return Err(Fault::Frame); // its end is missing
     }
-    Fault::Accepted
-}
-
-// The payload of the record at `at` as a slice of the image; empty if it is refused.
-pub fn payload(image: &[u8], at: usize) -> &[u8]
-    ensures { result.now ≡ payload_gives image.now at }
-{
-    let fault = payload_fault(image, at);
-    if !accepted(fault) {
-        return &image[0..0];
-    }
-    payload_part::part_at(image, at)
+    Ok(payload_part::part_at(image, at))
 }

@@ -12,7 +12,8 @@ use std::io;
 use std::io::{ErrorKind, Read, Write};
 use trm_listing::inner::pieces;
 
-// Reads until the buffer is full or the input ends; returns the number of bytes that it read.
+// Reads until the buffer is full or the input ends; returns the number of bytes that it read. A loop: the library's `read_exact` fails
+// where the input ends before.
 pub fn read_full<R: Read>(input: &mut R, buf: &mut [u8]) -> io::Result<usize>
     ensures within { IfOk result (λ n. n ≤ length buf.new) }
     ensures taken { IfOk result (λ n. Consumes (R.remaining input.old) (R.remaining input.new) (take n buf.new)) }
@@ -30,7 +31,7 @@ pub fn read_full<R: Read>(input: &mut R, buf: &mut [u8]) -> io::Result<usize>
     Ok(done)
 }
 
-// Writes all of a piece.
+// Writes all of a piece. A loop: the library's `write_all` does not say what a write that fails leaves.
 fn write_piece<W: Write>(out: &mut W, piece: &[u8]) -> io::Result<()>
     ensures ok { OnOk result (Appends (W.contents out.old) (W.contents out.new) piece.now) }
     ensures err { OnErr result (AppendsFirst (W.contents out.old) (W.contents out.new) piece.now) }

@@ -1,6 +1,6 @@
 // The divider's two registers packed into one number, the remainder in the upper half: the state of a loop over steps.
 // Paper: "With t = floor(|B|/2^(32-k)), the divider holds remainder t mod A and quotient register ..".
-// A step is `divide::step` on the pair: shift left by one, and subtract A if it is at most the upper half. It does not use B.
+// A step is `Divider::step` on the pair: shift left by one, and subtract A if it is at most the upper half. It does not use B.
 ghost use Rattle.std.specs.Prelude.{◌≡◌};
 ghost use Rattle.trm_alu.specs.Pair.{pair_divisor, pair_step};
 

@@ -11,7 +11,7 @@ use crate::record::Devices;
 use trm_serial::inner::{receiver, transmitter};
 use trm_serial::record::Serial;
 
-// The serial part after the core's access: 17 reads device 4, 18 writes it.
+// The serial part after the core's access: 17 reads device 4, 18 writes it; the answer byte is a number of the C interface.
 #[tactic(auto, unfolding(crate::specs::Board::access_of))]
 fn serial_access(s: Serial, byte: u8, word: u32) -> Serial
     ensures { result ≡ accessed paper_timing (access_of byte word) s }

@@ -73,7 +73,7 @@ pub fn operand_b(c: Scalars, regs: &[u32; 16], w: u32) -> u32
     register_at(c, regs, w / 0x800 % 8)
 }
 
-// The word that ST stores: R.d.
+// The word that ST stores: R.d too, but the paper names it apart, and so does its definition; one function for both is no plainer.
 #[tactic(auto, unfolding(trm_reference::specs::Access::stored))]
 pub fn stored_word(c: Scalars, regs: &[u32; 16], w: u32) -> u32
     ensures { result ≡ stored w (gathered c regs.now) }

@@ -1,6 +1,7 @@
 // One step of the multiplier or the divider, computed from the registers in flight.
 // Paper: "After k multiplier steps .."; "With t = floor(|B|/2^(32-k)), the divider holds ..".
 // The step functions are trm_alu's: the multiplier's does not read A, the divider's does not read B.
+// A first step and a later one are two functions: one for both is slower in the loop of a run (D-53).
 ghost use Rattle.std.specs.Prelude.{◌≡◌, ◌≢◌, ◌+◌};
 ghost use Rattle.trm_core.specs.Record.{gathered, stepping};
 ghost use Rattle.trm_clock_scalars.specs.Steps.{Steps, Multiplies, Divides, multiplied, divided_by};

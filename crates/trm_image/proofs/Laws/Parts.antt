@@ -1,17 +1,12 @@
 -- A payload as a slice of the image: its bytes and words are the image's.
 -- Idea: byte i of a slice is byte i after the slice's start; words by induction on their count.
-use Prim.Native.Nat.{ℕ, zero, suc, ◌+◌, ◌*◌, ◌-◌, ◌≤◌, ◌<◌}
+use Prim.Native.Nat.{ℕ, zero, suc, ◌+◌, ◌*◌, ◌≤◌, ◌<◌}
 use mathlib.Core.Path.{◌≡◌, refl, ap, ap₂, ◌∙◌}
 use mathlib.Core.List.{List, ◌∷◌}
 use native.Mathlib.Omega.{arith}
 use lib.ListN.{length, get_or, take, drop, length-drop}
 use lib.Seq.{get_or-take, get_or-drop, length-take-le}
 use Rattle.trm_image.specs.Records.{le4, length_at, payload_at, words_at}
-
-pub part_of : (s : List ℕ) (at n : ℕ) → take (at + 6 + n - (at + 6)) (drop (at + 6) s) ≡ take n (drop (at + 6) s)
-part_of s at n =
-    let e : at + 6 + n - (at + 6) ≡ n = omega arith in
-    rw e
 
 -- n bytes from offset k on
 module _ (s : List ℕ) (k n : ℕ) where

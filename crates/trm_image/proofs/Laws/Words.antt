@@ -30,9 +30,3 @@ module _ (s : List ℕ) (at words limit : ℕ) where
   fits-end i h =
       let none : words - i ≡ 0 = omega arith in
       rw none
-
-  pub fits_all : all_at_most limit (words_at s (at + 0) (words - 0)) ≡ all_at_most limit (words_at s at words)
-  fits_all =
-      let e : at + 0 ≡ at = omega arith in
-      let f : words - 0 ≡ words = omega arith in
-      rw (e, f)

@@ -6,7 +6,7 @@ ghost use Rattle.trm_image.specs.Records.{length_at, payload_at, record_at};
 
 use crate::inner::bytes;
 
-// Goes from record to record until one begins at `at` or the image ends.
+// Goes from record to record until one begins at `at` or the image ends. A `while`, as each record says where the next one begins.
 pub fn record_at(image: &[u8], at: usize) -> bool
     ensures { result ≡ record_at image.now at }
 {
@@ -15,12 +15,13 @@ pub fn record_at(image: &[u8], at: usize) -> bool
         if at == place {
             return true;
         }
-        place = place + 6 + bytes::word_at(image, place) as usize;
+        place += 6 + bytes::word_at(image, place) as usize;
     }
     false
 }
 
 // The payload of the record at `at`, which must not be cut short.
+#[tactic(auto, unfolding(crate::specs::Records::payload_at))]
 pub fn part_at(image: &[u8], at: usize) -> &[u8]
     requires { at + 6 + length_at image.now at ≤ length image.now }
     ensures { result.now ≡ payload_at image.now at }

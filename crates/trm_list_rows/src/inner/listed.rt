@@ -53,10 +53,7 @@ pub fn went(l: Listed, r: Clocked, w: u32, buf: &mut [u8]) -> Listed
 fn interrupt_shown(to: u64) -> Shown
     ensures { result ≡ cond (eqb to 2) Irq0 Irq1 }
 {
-    if to == 2 {
-        return Shown::Irq0;
-    }
-    Shown::Irq1
+    if to == 2 { Shown::Irq0 } else { Shown::Irq1 }
 }
 
 // One clock that takes an interrupt and goes to this PC; c are the scalars after it.

@@ -1,24 +1,12 @@
 // Writes whole rows of the listing to a buffer; each function requires the room of its longest row.
 // Paper: "Fields: clock count at the end, address and word .., unheld clocks, the counts in decimal".
-// specs/Lines.antt defines their bytes.
+// specs/Rows.antt defines their bytes. `at` is how far the buffer is filled; each returns how far it is filled afterwards, which a listing
+// keeps from one row to the next.
 ghost use Rattle.std.specs.Prelude.{◌≡◌, ◌+◌, ◌≤◌, length};
 ghost use Rattle.trm_list_text.specs.Rows.{header, shown_bytes, row_bytes, end_bytes, refused_bytes};
 ghost use Rattle.trm_list_text.specs.Wrote.{Wrote};
 
-use crate::inner::number_text;
-
-// The bytes of a list.
-fn put_text(buf: &mut [u8], at: usize, text: &[u8]) -> usize
-    requires { at + length text.now ≤ length buf.old }
-    ensures { Wrote buf.old at text.now buf.new result × (result ≡ at + length text.now) }
-{
-    let mut i: usize = 0;
-    while i < text.len() {
-        buf[at + i] = text[i];
-        i += 1;
-    }
-    at + i
-}
+use crate::inner::buffer_text::Text;
 
 // What a row shows as its word: the executed word, or the interrupt of line 0 or 1.
 #[derive(Clone, Copy)]
@@ -28,14 +16,17 @@ pub enum Shown {
     Irq1,
 }
 
-fn put_shown(buf: &mut [u8], at: usize, shown: Shown) -> usize
-    requires { at + 5 ≤ length buf.old }
-    ensures { Wrote buf.old at (shown_bytes shown) buf.new result × (result ≤ at + 5) }
+#[tactic(auto, unfolding(crate::specs::Rows::shown_bytes))]
+fn put_shown(text: &mut Text, shown: Shown)
+    requires { text.old.len + 5 ≤ length text.old.buf.now }
+    ensures same_buffer { text.new.buf.ghost_name ≡ text.old.buf.ghost_name }
+    ensures wrote { Wrote text.old.buf.now text.old.len (shown_bytes shown) text.new.buf.now text.new.len }
+    ensures short { text.new.len ≤ text.old.len + 5 }
 {
     match shown {
-        Shown::Word(w) => number_text::put_hex(buf, at, 5, w as u64),
-        Shown::Irq0 => put_text(buf, at, b"irq0"),
-        Shown::Irq1 => put_text(buf, at, b"irq1"),
+        Shown::Word(w) => text.put_hex(5, u64::from(w)),
+        Shown::Irq0 => text.put_text(b"irq0"),
+        Shown::Irq1 => text.put_text(b"irq1"),
     }
 }
 
@@ -45,21 +36,25 @@ pub fn put_row(buf: &mut [u8], at: usize, clock: u64, pc: u64, shown: Shown, too
     ensures { Wrote buf.old at (row_bytes (record { clock = clock; at = pc; shown = shown; took = took }))
         buf.new result × (result ≤ at + 32) }
 {
-    let a = number_text::put_decimal(buf, at, clock);
-    let b = number_text::put_byte(buf, a, 32);
-    let c = number_text::put_hex(buf, b, 3, pc);
-    let d = number_text::put_byte(buf, c, 32);
-    let e = put_shown(buf, d, shown);
-    let f = number_text::put_byte(buf, e, 32);
-    let g = number_text::put_decimal(buf, f, took);
-    number_text::put_byte(buf, g, 10)
+    let mut text = Text { buf, len: at };
+    text.put_decimal(clock);
+    text.put_byte(b' ');
+    text.put_hex(3, pc);
+    text.put_byte(b' ');
+    put_shown(&mut text, shown);
+    text.put_byte(b' ');
+    text.put_decimal(took);
+    text.put_byte(b'\n');
+    text.len
 }
 
 pub fn put_header(buf: &mut [u8], at: usize) -> usize
     requires { at + 19 ≤ length buf.old }
     ensures { Wrote buf.old at header buf.new result × (result ≡ at + 19) }
 {
-    put_text(buf, at, b"clock at word took\n")
+    let mut text = Text { buf, len: at };
+    text.put_text(b"clock at word took\n");
+    text.len
 }
 
 pub fn put_end(
@@ -73,24 +68,29 @@ pub fn put_end(
     requires { at + 80 ≤ length buf.old }
     ensures { Wrote buf.old at (end_bytes clocks held refills writebacks) buf.new result × (result ≤ at + 80) }
 {
-    let a = put_text(buf, at, b"end ");
-    let b = number_text::put_decimal(buf, a, clocks);
-    let c = put_text(buf, b, b" held ");
-    let d = number_text::put_decimal(buf, c, held);
-    let e = put_text(buf, d, b" refills ");
-    let f = number_text::put_decimal(buf, e, refills);
-    let g = put_text(buf, f, b" writebacks ");
-    let h = number_text::put_decimal(buf, g, writebacks);
-    number_text::put_byte(buf, h, 10)
+    let mut text = Text { buf, len: at };
+    text.put_text(b"end ");
+    text.put_decimal(clocks);
+    text.put_text(b" held ");
+    text.put_decimal(held);
+    text.put_text(b" refills ");
+    text.put_decimal(refills);
+    text.put_text(b" writebacks ");
+    text.put_decimal(writebacks);
+    text.put_byte(b'\n');
+    text.len
 }
 
+#[tactic(auto, using(crate::proofs::Laws::Wrote::wrote_then), unfolding(crate::specs::Rows::refused_bytes))]
 pub fn put_refused(buf: &mut [u8], at: usize, number: u64, offset: u64) -> usize
     requires { at + 32 ≤ length buf.old }
     ensures { Wrote buf.old at (refused_bytes number offset) buf.new result × (result ≤ at + 32) }
 {
-    let a = put_text(buf, at, b"refused ");
-    let b = number_text::put_decimal(buf, a, number);
-    let c = number_text::put_byte(buf, b, 32);
-    let d = number_text::put_decimal(buf, c, offset);
-    number_text::put_byte(buf, d, 10)
+    let mut text = Text { buf, len: at };
+    text.put_text(b"refused ");
+    text.put_decimal(number);
+    text.put_byte(b' ');
+    text.put_decimal(offset);
+    text.put_byte(b'\n');
+    text.len
 }

@@ -19,13 +19,7 @@ pub fn put_last(q: Place, buf: &mut [u8]) -> Ended
     ensures { EndHolds q buf.old result buf.new }
 {
     let l = q.listed;
-    if l.left != 0 {
-        return Ended {
-            len: l.len,
-            over: false,
-        };
-    }
-    if buf.len() - l.len < 80 {
+    if l.left != 0 || buf.len() - l.len < 80 {
         return Ended {
             len: l.len,
             over: false,
@@ -40,8 +34,5 @@ pub fn put_last(q: Place, buf: &mut [u8]) -> Ended
         c.counts.refills,
         c.counts.writebacks,
     );
-    Ended {
-        len: len,
-        over: true,
-    }
+    Ended { len, over: true }
 }

@@ -7,7 +7,7 @@ ghost use Rattle.trm_listing.specs.Pieces.{Ready, StartHolds, PieceHolds};
 
 use crate::inner::runs::Place;
 use crate::inner::{finish, runs};
-use trm_image::inner::{bytes, fault_number, load_words as load, payload_part};
+use trm_image::inner::{bytes, load_words as load, payload_part};
 use trm_image::reader;
 use trm_list_rows::inner::listed::Listed;
 use trm_list_text::inner::row_text;
@@ -50,15 +50,9 @@ pub fn first_piece(image: &[u8], program: &mut [u32], store: &mut [u32], buf: &m
     requires { (length program.old ≡ 4096) × (length store.old ≡ 2048) × (128 ≤ length buf.old) }
     ensures { StartHolds image.now program.old store.old buf.old result program.new store.new buf.new }
 {
-    let checked = reader::check(image, 2048);
-    let fault = checked.fault;
-    if !reader::accepted(fault) {
-        let len = row_text::put_refused(
-            buf,
-            0,
-            fault_number::number_of(fault) as u64,
-            checked.at as u64,
-        );
+    if let Err(refusal) = reader::check(image, 2048) {
+        let number = u64::from(u32::from(refusal.fault));
+        let len = row_text::put_refused(buf, 0, number, refusal.at as u64);
         let none = reset::zero_record(store);
         return Listing {
             machine: none,
@@ -68,7 +62,7 @@ pub fn first_piece(image: &[u8], program: &mut [u32], store: &mut [u32], buf: &m
             pins: 0,
             input: 0,
             took: 0,
-            len: len,
+            len,
             over: true,
         };
     }
@@ -79,14 +73,14 @@ pub fn first_piece(image: &[u8], program: &mut [u32], store: &mut [u32], buf: &m
     let machine = reset::zero_record(store);
     let len = row_text::put_header(buf, 0);
     Listing {
-        machine: machine,
-        words: words,
-        at: at,
+        machine,
+        words,
+        at,
         left: 0,
         pins: 0,
         input: 0,
         took: 0,
-        len: len,
+        len,
         over: false,
     }
 }

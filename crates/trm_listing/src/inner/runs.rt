@@ -84,24 +84,17 @@ fn next_run(q: Place, image: &[u8]) -> Place
       input = input_at image.now q.at;
     } }
 {
-    let at = q.at;
-    let payload = payload_part::part_at(image, at);
+    let payload = payload_part::part_at(image, q.at);
     let count = bytes::word_at(payload, 0);
-    let pins = bytes::byte_at(payload, 4);
-    let input = bytes::word_at(payload, 5);
-    let l = q.listed;
-    let c = l.scalars;
     let listed = Listed {
-        scalars: c,
         left: count as usize,
-        took: l.took,
-        len: l.len,
+        ..q.listed
     };
     Place {
-        listed: listed,
-        at: at + 15,
-        pins: pins,
-        input: input,
+        listed,
+        at: q.at + 15,
+        pins: bytes::byte_at(payload, 4),
+        input: bytes::word_at(payload, 5),
     }
 }
 

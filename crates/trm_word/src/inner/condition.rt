@@ -1,6 +1,6 @@
 // The sixteen conditions of operation 14, by number.
 // Paper: "Conditions 0-15: Z; not Z; C; not C; N; not N; V; not V; C and not Z; its opposite; .."
-// A flag is a number; it is set if it is 1.
+// A flag is a number, as in the record that C programs hold; it is set if it is 1.
 ghost use Rattle.std.specs.Prelude.{◌≡◌};
 ghost use Rattle.trm_word.specs.Condition.{condition_holds};
 

@@ -1,19 +1,16 @@
-use mathlib.Core.Path.{sym, ap, ◌∙◌}
-use lib.Dec.{eqb}
-use Rattle.trm_image.proofs.Laws.Places.{payload-whole, gives_none, gives_part}
+-- A record begins inside the image, and one that is not cut short ends there.
+use mathlib.Core.Path.{sym, ◌∙◌}
+use native.Mathlib.Omega.{arith}
+use Rattle.trm_image.proofs.Laws.Places.{record_inside}
+use Rattle.trm_image.proofs.Laws.Walk.{uncut}
 use Rattle.trm_image.proofs.reader.payload.Goals as goal
 
-pub returns-then-not-accepted : goal.returns-then-not-accepted
-returns-then-not-accepted c =
-    gives_none _ _ (ap (λ k. eqb k 0) (sym c.payload_fault-fault.ensures) ∙ sym
-    c.accepted.ensures ∙ c.if-not-accepted.true)
+pub cut_short-requires : goal.cut_short-requires
+cut_short-requires c =
+    let inside = record_inside _ _ (sym c.record_at.ensures ∙ c.if-not-record_at.false) in
+    (omega (arith, inside), omega (arith, inside))
 
 pub part_at-requires : goal.part_at-requires
 part_at-requires c =
-    payload-whole _ _ (ap (λ k. eqb k 0) (sym c.payload_fault-fault.ensures) ∙ sym c.accepted.ensures
-    ∙ c.if-not-accepted.false)
-
-pub returns : goal.returns
-returns c =
-    c.part_at.ensures ∙ gives_part _ _ (ap (λ k. eqb k 0) (sym c.payload_fault-fault.ensures) ∙ sym
-    c.accepted.ensures ∙ c.if-not-accepted.false)
+    let inside = record_inside _ _ (sym c.record_at.ensures ∙ c.if-not-record_at.false) in
+    uncut _ _ (omega (arith, inside)) (sym c.cut_short.ensures ∙ c.if-cut_short.false)

@@ -1,6 +1,7 @@
-use mathlib.Core.Path.{refl, sym, ◌∙◌}
+use mathlib.Core.Path.{◌≡◌, refl, sym, ◌∙◌}
 use native.Mathlib.Omega.{arith}
-use Rattle.trm_image.specs.Records.{records_of, record_at}
+use Prim.Native.Nat.{◌+◌}
+use Rattle.trm_image.specs.Records.{length_at, records_of, record_at}
 use Rattle.trm_image.proofs.Laws.Places.{found_here, found-later, found_none}
 use Rattle.trm_image.proofs.inner.payload_part.record_at.Goals as goal
 
@@ -11,13 +12,11 @@ loop-place-init c = refl
 pub returns-then-at-place : goal.returns-then-at-place
 returns-then-at-place c = sym (found_here _ _ _ c.loop-place-test.true c.if-at-place.true) ∙ c.loop-place.invariant
 
-pub loop-place-smaller : goal.loop-place-smaller
-loop-place-smaller c = omega (arith, c.loop-place-test.true)
-
 pub loop-place-preserved : goal.loop-place-preserved
 loop-place-preserved c =
-    rw c.word_at.ensures (sym (found-later _ _ _ c.loop-place-test.true c.if-at-place.false)
-    ∙ c.loop-place.invariant)
+    let next : c.loop-place.place + (6 + c.word_at.result) ≡ c.loop-place.place + 6 + length_at c.args.image.now c.loop-place.place =
+    omega (arith, c.word_at.ensures) in
+    rw next (sym (found-later _ _ _ c.loop-place-test.true c.if-at-place.false) ∙ c.loop-place.invariant)
 
 pub returns : goal.returns
 returns c = sym (found_none _ _ _ c.loop-place-test.false) ∙ c.loop-place.invariant

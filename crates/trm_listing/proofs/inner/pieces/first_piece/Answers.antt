@@ -4,9 +4,10 @@ use mathlib.Core.Path.{◌≡◌, refl, sym, ap, ◌∙◌}
 use mathlib.Core.Bool.{false}
 use native.Mathlib.Omega.{arith}
 use lib.Dec.{eqb}
-use borrow.Author.Tests.{eqb-true}
 use Rattle.trm_laws.proofs.Tests.{clash}
 use Rattle.trm_image.specs.Refused.{image_fault}
+use Rattle.trm_image.specs.Numbers.{number_of}
+use Rattle.trm_image.proofs.Laws.Numbers.{number_of-some}
 use Rattle.trm_image.proofs.Laws.Accepted.{accepted-head}
 use Rattle.trm_listing.specs.Rest.{pins_left}
 use Rattle.trm_listing.specs.Pieces.{rest_of}
@@ -15,20 +16,18 @@ use Rattle.trm_listing.proofs.Laws.Whole.{part-long, program-read, taken, output
 use Rattle.trm_listing.proofs.inner.pieces.first_piece.Goals as goal
 
 pub put_refused-len-requires : goal.put_refused-len-requires
-unfolding rest_of pins_left
 put_refused-len-requires c = omega (arith, c.requires.2)
 
-pub returns-then-not-accepted : goal.returns-then-not-accepted
+pub returns-in-Err : goal.returns-in-Err
 unfolding rest_of pins_left
-returns-then-not-accepted c =
-    let e = c.check-checked.ensures in
-    let bad = ap (λ k. eqb k 0) c.number_of.ensures ∙ sym
-    c.accepted.ensures ∙ c.if-not-accepted.true in
-    let refused : eqb (image_fault 2048 c.args.image.now).number 0 ≡ false = ap (λ k. eqb k 0) (sym e.number) ∙ sym
-    c.accepted.ensures ∙ c.if-not-accepted.true in
+returns-in-Err c =
+    let e = c.in-Err.ensures in
+    let is : c.from-number.result ≡ number_of c.in-Err.refusal.fault = c.from-number.ensures ∙ c.from.ensures in
+    let bad = ap (λ k. eqb k 0) is ∙ number_of-some c.in-Err.refusal.fault in
+    let refused : eqb (image_fault 2048 c.args.image.now).number 0 ≡ false = ap (λ k. eqb k 0) (sym e.number)
+    ∙ number_of-some c.in-Err.refusal.fault in
     record {
-      text = output-refused _ _ _ _ _ _ (c.number_of.ensures ∙ e.number) e.at bad
-          c.put_refused-len.ensures.0;
+      text = output-refused _ _ _ _ _ _ (is ∙ e.number) e.at bad c.put_refused-len.ensures.0;
       ready = λ z. clash (sym z);
       fits = omega (
         arith,
@@ -46,34 +45,27 @@ returns-then-not-accepted c =
 
 pub part_at-payload-requires : goal.part_at-payload-requires
 part_at-payload-requires c =
-    let ok : (image_fault 2048 c.args.image.now).number ≡ 0 = sym
-    c.check-checked.ensures.number ∙ eqb-true _ 0 (sym c.accepted.ensures ∙ c.if-not-accepted.false) in
+    let ok : (image_fault 2048 c.args.image.now).number ≡ 0 = sym c.in_default.ensures.number in
     (accepted-head 2048 _ ok).whole
 
 pub load_words-requires : goal.load_words-requires
-unfolding rest_of pins_left
 load_words-requires c =
-    let ok : (image_fault 2048 c.args.image.now).number ≡ 0 = sym c.check-checked.ensures.number
-    ∙ eqb-true _ 0 (sym c.accepted.ensures ∙ c.if-not-accepted.false) in
+    let ok : (image_fault 2048 c.args.image.now).number ≡ 0 = sym c.in_default.ensures.number in
     let l = part-long _ ok _ c.part_at-payload.ensures in
     (omega arith, omega (arith, l, (accepted-head 2048 _ ok).long, c.requires.0), omega (arith, c.requires.0))
 
 pub load_store-at-requires : goal.load_store-at-requires
-unfolding rest_of pins_left
 load_store-at-requires c =
-    let ok : (image_fault 2048 c.args.image.now).number ≡ 0 = sym c.check-checked.ensures.number ∙ eqb-true _ 0 (sym c.accepted.ensures ∙
-    c.if-not-accepted.false) in
+    let ok : (image_fault 2048 c.args.image.now).number ≡ 0 = sym c.in_default.ensures.number in
     record {
       accepted = ok;
       long = c.requires.1;
     }
 
 pub zero_record-machine-requires : goal.zero_record-machine-requires
-unfolding rest_of pins_left
 zero_record-machine-requires c = omega (arith, c.load_store-at.ensures.long)
 
 pub put_header-len-requires : goal.put_header-len-requires
-unfolding rest_of pins_left
 put_header-len-requires c =
     omega (arith, c.requires.2)
 
@@ -81,8 +73,7 @@ pub returns : goal.returns
 unfolding rest_of pins_left
 returns c =
     let image = c.args.image.now in
-    let ok : (image_fault 2048 image).number ≡ 0 = sym c.check-checked.ensures.number
-    ∙ eqb-true _ 0 (sym c.accepted.ensures ∙ c.if-not-accepted.false) in
+    let ok : (image_fault 2048 image).number ≡ 0 = sym c.in_default.ensures.number in
     let part = c.part_at-payload.ensures in
     let l = part-long image ok _ part in
     let n = ap (λ k. k / 4) l in

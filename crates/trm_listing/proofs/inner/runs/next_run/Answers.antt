@@ -10,8 +10,8 @@ returns c =
     let nine = c.requires.0 in
     rw (
       c.word_at-count.ensures,
-      c.byte_at-pins.ensures,
-      c.word_at-input.ensures,
+      c.byte_at.ensures,
+      c.word_at.ensures,
       c.part_at-payload.ensures,
       payload-word image at 0 (at + 6) (omega (arith, nine)) (omega arith),
       payload-byte image at 4 (at + 10) (omega (arith, nine)) (omega arith),
