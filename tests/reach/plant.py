@@ -1,15 +1,14 @@
 # Inserts a counter at every place that the tests must reach, and translates the text to Rust. These are the places:
-# - each function;
-# - each of the two outcomes of a condition, of each operand of an `&&` or `||` anywhere, of a guard, of what `then_some` and `then` stand on,
-#   of a closure that decides (DECIDING: that of `filter`, `all`, `position` ..), and of a comparison that becomes a number;
-# - each arm of a `match`; of a pattern with `|` each alternative, wherever in the pattern, and of a range each of its two ends; the same for
-#   the pattern of `matches!`, and that none fits;
-# - of `if let`, `while let` and `let .. else` that the pattern fits, and that it does not;
-# - of each `for`, and of each method that asks an iterator for all it has (DRAINING: `fold`, `all`, `count` ..), a turn, and the end;
-# - the body of each closure;
-# - of each `?`, and of each method of an Option or Result that has a way for the absent value or for the error (CHOOSING: `unwrap_or`, `map`,
-#   `and_then` ..), that there is a value, and that there is none;
-# - of `min`, `max` and `saturating_sub` that the one operand is the result, or the difference is one, and that it is not.
+# - each function, and the body of each closure;
+# - each of the two outcomes of a condition, of each operand of an `&&` or `||` anywhere, of a guard, of what `then` and `then_some` stand
+#   on, of a closure or function that decides for a method (DECIDING: `filter`, `all` ..), and of a comparison that becomes a number;
+# - each arm of a `match`; of a pattern with `|` each alternative, wherever in the pattern, and of a range each of its ends; the same for the
+#   pattern of `matches!`, and that it does not fit;
+# - of `if let`, `while let` and `let .. else`, that the pattern fits, and that it does not;
+# - of each `for`, and of each method that asks an iterator for what it has (DRAINING: `fold`, `all`, `count` ..), a turn, and the end;
+# - of each `?`, and of each method of an Option or Result with a way for None or Err (CHOOSING: `unwrap_or`, `map`, `and_then` ..), that
+#   there is a value, and that there is none;
+# - of each `min`, `max` and `saturating_sub`, which of the two it gives.
 # The error of a `?` in a function that returns an io::Result has no counter: it is a failed read or write. No place either: what other
 # methods of the library do inside, an operator that only compares, an index, and a `break`.
 # Called: imported by tests/reach/workspace.py; it does nothing when run.
