@@ -2,8 +2,8 @@
 # - each function, and the body of each closure;
 # - each of the two outcomes of a condition, of each operand of an `&&` or `||` anywhere, of a guard, of what `then` and `then_some` stand
 #   on, of a closure or function that decides for a method (DECIDING: `filter`, `all` ..), and of a comparison that becomes a number;
-# - each arm of a `match`; of a pattern with `|` each alternative, wherever in the pattern, and of a range each of its ends; the same for the
-#   pattern of `matches!`, and that it does not fit;
+# - each arm of a `match`; of a pattern with `|` each alternative, also inside of brackets, and of a range each of its ends; the same for
+#   the pattern of `matches!`, and that it does not fit;
 # - of `if let`, `while let` and `let .. else`, that the pattern fits, and that it does not;
 # - of each `for`, and of each method that asks an iterator for what it has (DRAINING: `fold`, `all`, `count` ..), a turn, and the end;
 # - of each `?`, and of each method of an Option or Result with a way for None or Err (CHOOSING: `unwrap_or`, `map`, `and_then` ..), that
