@@ -23,7 +23,7 @@ impl From<Kind> for u32 {
     fn from(k: Kind) -> u32 {
         match k {
             Kind::One(1 | 2) | Kind::Three => 1,
-            Kind::One(3..=5) => 2,
+            Kind::One(n @ 3..=5) => n,
             Kind::Two { x, y } if x < 3 && y > 4 => 3,
             Kind::Two { x: 7 | 8, .. } | Kind::One(_) => 4,
             Kind::Two { .. } => 5,
