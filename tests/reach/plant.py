@@ -8,7 +8,7 @@
 # - of each `for`, and of each method that asks an iterator for what it has (DRAINING: `fold`, `all`, `count` ..), a turn, and the end;
 # - of each `?`, and of each method of an Option or Result with a way for None or Err (CHOOSING: `unwrap_or`, `map`, `and_then` ..), that
 #   there is a value, and that there is none;
-# - of each `min`, `max` and `saturating_sub`, which of the two it gives.
+# - of each `min`, `max`, `saturating_sub` and `unsigned_abs`, which of two values it gives.
 # The error of a `?` in a function that returns an io::Result has no counter: it is a failed read or write. No place either: what other
 # methods of the library do inside, an operator that only compares, an index, and a `break`.
 # Called: imported by tests/reach/workspace.py; it does nothing when run.
@@ -37,7 +37,7 @@ SHARED = set('cloned copied filter flat_map flatten inspect map take zip'.split(
 ITERATING = set('chars chunks chunks_exact enumerate into_iter iter iter_mut rev skip skip_while step_by take_while windows'.split())
 # Methods that give one of two values; the stand-in has those with counters.
 PICKING = {'min': ('the operand before it', 'the other'), 'max': ('the operand before it', 'the other'),
-           'saturating_sub': ('a difference', 'zero in place of one')}
+           'saturating_sub': ('a difference', 'zero in place of one'), 'unsigned_abs': ('the number', 'its negation')}
 # Methods with ways of their own that have no counters here yet.
 UNKNOWN = set('''clamp contains ends_with max_by min_by retain saturating_add saturating_mul saturating_pow sort_by starts_with try_fold
     try_for_each'''.split())

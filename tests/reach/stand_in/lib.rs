@@ -138,6 +138,17 @@ macro_rules! subtracting {
 
 subtracting!(u8 u16 u32 u64 usize);
 
+pub trait Signed {
+    fn reach_unsigned_abs(self, number: usize, negation: usize) -> u32;
+}
+
+impl Signed for i32 {
+    fn reach_unsigned_abs(self, number: usize, negation: usize) -> u32 {
+        either(self >= 0, number, negation);
+        self.unsigned_abs()
+    }
+}
+
 pub fn lent<'a, T>(at: *const T, many: usize) -> &'a [T] {
     if many == 0 {
         return &[];
