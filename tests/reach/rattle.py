@@ -1,18 +1,21 @@
-# Splits Rattle code into tokens, without what only proofs use: contracts, `ghost use`, attributes of proofs and comments.
+# Splits Rattle code into tokens, without what only proofs use: contracts, all that is `ghost`, `prove!`, attributes of proofs and comments.
 # Called: imported by tests/reach/plant.py; it does nothing when run.
 # Reads: nothing; it gets a text. It stops at anything that it does not know, with the file and the line number.
 import re
 from dataclasses import dataclass
 
 TOKEN = re.compile(r'''(?P<gap>\s+|//[^\n]*)
-    |(?P<string>b?"(?:\\.|[^"\\])*"|b'(?:\\.|[^'\\])')
+    |(?P<string>b?"(?:\\.|[^"\\])*"|b?'(?:\\.|[^'\\])')
+    |(?P<lifetime>'[A-Za-z_]\w*)
     |(?P<number>\d\w*)
     |(?P<name>[A-Za-z_]\w*)
-    |(?P<mark>=>|->|::|\.\.=|\.\.|==|!=|<=|>=|<<|>>|[-+*/%]=|&&|\|\||[-+*/%&|^!<>=(){}\[\],;:.\#?])''', re.X | re.A)
+    |(?P<mark>=>|->|::|\.\.=|\.\.|==|!=|<=|>=|<<|>>|[-+*/%]=|&&|\|\||[-+*/%&|^!<>=(){}\[\],;:.\#?@])''', re.X | re.A)
 CONTRACT = re.compile(r'(?:requires|ensures)\*?\s*(?:\w+\s*)?\{')
 GHOST_USE = re.compile(r'ghost\s+use\s[^;]*;')
 GHOST_MEMBER = re.compile(r'ghost\s+\w+\s*[:=]\s*\{')
+GHOST_VALUE = re.compile(r'\s*=\s*\{')
 GHOST_LAST = re.compile(r'\s*[;,]')
+PROVED = re.compile(r'prove(?:_eq|_ne)?!\s*\(')
 PROVING = re.compile(r'#!?\[\s*(?:tactic|cycle)\b')
 PAIRS = {'(': ')', '[': ']', '{': '}'}
 
@@ -43,9 +46,11 @@ def closing_end(path, text, at, opening='{'):
 
 
 def ghost_end(path, text, at, name):
-    """The index after a contract, a `ghost use` or a ghost member that begins here."""
+    """The index after a contract, a `ghost use`, or a ghost field or member, that begins here."""
     if name == 'ghost' and (member := GHOST_MEMBER.match(text, at)):
         end = closing_end(path, text, member.end())
+        if value := GHOST_VALUE.match(text, end):
+            end = closing_end(path, text, value.end())
         last = GHOST_LAST.match(text, end)
         return last.end() if last else end
     pattern = GHOST_USE if name == 'ghost' else CONTRACT
@@ -65,6 +70,11 @@ def tokens_of(path, text):
         kind, piece, end = found.lastgroup, found[0], found.end()
         if kind == 'name' and piece in ('ghost', 'requires', 'ensures'):
             kind, end = 'gap', ghost_end(path, text, at, piece)
+            if tokens and tokens[-1].text == 'pub':
+                gap = tokens.pop().gap + gap
+        elif proved := PROVED.match(text, at):
+            kind, end = 'gap', closing_end(path, text, proved.end(), '(')
+            end += text[end:end + 1] == ';'
         elif proving := PROVING.match(text, at):
             kind, end = 'gap', closing_end(path, text, proving[0].index('[') + at + 1, '[')
         lines = text.count('\n', at, end)

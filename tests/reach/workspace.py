@@ -1,6 +1,6 @@
-# Writes the crates as a Cargo workspace with counters, under target/reach, and builds it: the archive libtrm.a and the programs.
+# Writes the crates as a Cargo workspace with counters, under target/reach, and builds it: the archive libtrm.a, the programs, the sample.
 # Called: imported by tests/reach/run; it does nothing when run.
-# Reads: crates.txt, crates/*/src, tests/reach/stand_in for the counters and for the kit's std.
+# Reads: crates.txt, crates/*/src, tests/reach/stand_in for the counters and for the kit's std, tests/reach/sample.rt.
 import os
 import re
 import shutil
@@ -12,6 +12,7 @@ from plant import Planter
 ROOT = Path(__file__).resolve().parents[2]
 CRATES = ROOT / 'crates'
 STAND_IN = ROOT / 'tests' / 'reach' / 'stand_in'
+SAMPLE = ROOT / 'tests' / 'reach' / 'sample.rt'
 ROOM = ROOT / 'target' / 'reach'
 RELEASE = ROOM / 'target' / 'release'
 ARCHIVE = ROOM / 'archive' / 'libtrm.a'
@@ -56,9 +57,17 @@ def write_crate(crate, first, is_static):
     return places
 
 
+def write_sample():
+    """Writes the sample as a program; returns its places, numbered from 0 on."""
+    planter = Planter(SAMPLE.name, SAMPLE.read_text(encoding='utf-8'), 0, False)
+    write(ROOM / 'sample' / 'src' / 'main.rs', planter.plant())
+    write_manifest('sample', ['reach'])
+    return planter.places
+
+
 def write_workspace():
-    """Writes the whole workspace; returns every place, its index being its number."""
-    places, members = [], ['reach']
+    """Writes the whole workspace but for the sample; returns every place, its index being its number."""
+    places, members = [], ['reach', 'sample']
     write_manifest('reach', [])
     for path in STAND_IN.glob('*.rs'):
         write(ROOM / 'reach' / 'src' / path.name, path.read_text(encoding='utf-8'))

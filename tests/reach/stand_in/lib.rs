@@ -43,6 +43,112 @@ pub fn either(condition: bool, yes: usize, no: usize) -> bool {
     condition
 }
 
+/// A value that may be absent, or an error.
+pub trait Tried {
+    fn has_value(&self) -> bool;
+}
+
+impl<T> Tried for Option<T> {
+    fn has_value(&self) -> bool {
+        self.is_some()
+    }
+}
+
+impl<T, E> Tried for Result<T, E> {
+    fn has_value(&self) -> bool {
+        self.is_ok()
+    }
+}
+
+/// Such a value, and the place for each of its cases.
+#[inline]
+pub fn tried<T: Tried>(value: T, yes: usize, no: usize) -> T {
+    either(value.has_value(), yes, no);
+    value
+}
+
+/// The same with no place for an error.
+#[inline]
+pub fn passed<T: Tried>(value: T, yes: usize) -> T {
+    if value.has_value() {
+        hit(yes);
+    }
+    value
+}
+
+/// An iterator, and the places for a turn and for its end.
+pub struct Each<I> {
+    inner: I,
+    turn: usize,
+    end: usize,
+}
+
+pub fn each<I: IntoIterator>(list: I, turn: usize, end: usize) -> Each<I::IntoIter> {
+    Each { inner: list.into_iter(), turn, end }
+}
+
+impl<I: Iterator> Iterator for Each<I> {
+    type Item = I::Item;
+
+    #[inline]
+    fn next(&mut self) -> Option<I::Item> {
+        tried(self.inner.next(), self.turn, self.end)
+    }
+}
+
+impl<I: DoubleEndedIterator> DoubleEndedIterator for Each<I> {
+    fn next_back(&mut self) -> Option<I::Item> {
+        tried(self.inner.next_back(), self.turn, self.end)
+    }
+}
+
+impl<I: ExactSizeIterator> ExactSizeIterator for Each<I> {
+    fn len(&self) -> usize {
+        self.inner.len()
+    }
+}
+
+/// The methods that give one of two values, and the place for each of the two.
+pub trait Picking: Ord + Sized {
+    fn reach_min(self, this: usize, that: usize, other: Self) -> Self {
+        either(self <= other, this, that);
+        self.min(other)
+    }
+
+    fn reach_max(self, this: usize, that: usize, other: Self) -> Self {
+        either(self >= other, this, that);
+        self.max(other)
+    }
+}
+
+impl<T: Ord> Picking for T {}
+
+pub trait Subtracting: Sized {
+    fn reach_saturating_sub(self, difference: usize, zero: usize, other: Self) -> Self;
+}
+
+macro_rules! subtracting {
+    ($($number:ty)*) => { $(impl Subtracting for $number {
+        fn reach_saturating_sub(self, difference: usize, zero: usize, other: $number) -> $number {
+            either(self >= other, difference, zero);
+            self.saturating_sub(other)
+        }
+    })* };
+}
+
+subtracting!(u8 u16 u32 u64 usize);
+
+pub trait Signed {
+    fn reach_unsigned_abs(self, number: usize, negation: usize) -> u32;
+}
+
+impl Signed for i32 {
+    fn reach_unsigned_abs(self, number: usize, negation: usize) -> u32 {
+        either(self >= 0, number, negation);
+        self.unsigned_abs()
+    }
+}
+
 pub fn lent<'a, T>(at: *const T, many: usize) -> &'a [T] {
     if many == 0 {
         return &[];

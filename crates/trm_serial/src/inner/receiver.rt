@@ -8,20 +8,19 @@ ghost use Rattle.trm_serial.specs.Rule.{Narrow};
 
 use crate::record::Serial;
 
-// Whether the clock after so many of a frame samples a data bit.
+// Whether the clock after so many of a frame samples a data bit; the last clock of a frame, 9613, samples its stop bit.
 #[tactic(auto, unfolding(crate::specs::Serial::samples))]
 fn samples_data(passed: u64) -> bool
-    requires { passed < 9614 }
+    requires { passed < 9613 }
     ensures { result ≡ samples paper_timing passed }
 {
-    let place = passed / 1012;
-    passed % 1012 + 1 == 506 && 0 < place && place < 9
+    passed % 1012 + 1 == 506 && 1012 <= passed
 }
 
 // The shift register after a clock.
 #[tactic(auto, unfolding(crate::specs::Serial::gathered))]
 fn gather(line: u64, passed: u64, bits: u64) -> u64
-    requires { (passed < 9614) × (line ≤ 1) × (bits ≤ 255) }
+    requires { (passed < 9613) × (line ≤ 1) × (bits ≤ 255) }
     ensures { result ≡ gathered paper_timing line passed bits }
 {
     if samples_data(passed) {
