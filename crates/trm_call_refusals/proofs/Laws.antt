@@ -1,16 +1,14 @@
 -- Laws of the tests over a list, what a passed row implies, and the number of a call by its first rows.
 -- Idea: the tests over a list by induction; the other laws are by cases of a Bool.
---   each_word, most-is   the tests over a list        passed_store, passed_clocks, passed_length   what a passed row implies
+--   all_split, most-is   the tests over a list        passed_store, passed_clocks, passed_length   what a passed row implies
 --   rows   a call by its first rows: refused, passed, and then its clock count        reset_short   a reset
-use Prim.Native.Nat.{ℕ, max, ◌+◌, ◌^◌, ◌≤◌, ◌<◌}
+use Prim.Native.Nat.{ℕ, zero, suc, max, ◌+◌, ◌^◌, ◌≤◌, ◌<◌}
 use mathlib.Core.Path.{◌≡◌, refl, sym, ◌∙◌}
 use mathlib.Core.Bool.{Bool, true, false, cond, not, ◌&&◌, ◌||◌, and-true}
 use mathlib.Core.List.{List, [], ◌∷◌}
 use native.Mathlib.Omega.{arith}
 use borrow.Author.Tests.{le-leb, lt-leb, leb-true, leb-false, ltb-true, ltb-false}
-use lib.ListN.{length, get_or, drop, drop_of_length-le}
-use lib.Seq.{drop-cons}
-use native.Mathlib.Numerals.{add-one}
+use lib.ListN.{length, take, drop}
 use lib.Dec.{eqb, leb, ltb}
 use Rattle.std.specs.List.{fold}
 use Rattle.trm_laws.proofs.Tests.{clash, both, all4, test_at}
@@ -27,29 +25,6 @@ use Rattle.trm_call_refusals.specs.declared.refusal.Refusal.{Refusal}
 use Rattle.trm_call_refusals.specs.declared.refusal.Refusal.TheVariants.{Program, Store, Record, LineBytes, Buffers, Clocks, Place}
 use Rattle.trm_call_refusals.specs.Numbers.{number_of}
 
-all_cons : (limit x : ℕ) (xs : List ℕ) → all_at_most limit (x ∷ xs) ≡ (leb x limit && all_at_most limit xs)
-unfolding all_at_most
-all_cons limit x xs = refl
-
-all_nil : (limit : ℕ) → all_at_most limit [] ≡ true
-unfolding all_at_most
-all_nil limit = refl
-
--- a number within the limit can be dropped
-pub all_more : (limit : ℕ) (xs : List ℕ) (i : ℕ) → i < length xs → get_or xs i 0 ≤ limit
-    → all_at_most limit (drop i xs) ≡ all_at_most limit (drop (i + 1) xs)
-all_more limit xs i h l = rw (drop-cons xs i 0 h, all_cons, le-leb _ _ l, add-one) refl
-
--- a number above the limit makes the test fail
-pub all_bad : (limit : ℕ) (xs : List ℕ) (i : ℕ) → i < length xs → limit < get_or xs i 0 → all_at_most limit (drop i xs) ≡ false
-all_bad limit xs i h l = rw (drop-cons xs i 0 h, all_cons, lt-leb _ _ l) refl
-
--- after the end none is left
-pub all_end : (limit : ℕ) (xs : List ℕ) (i : ℕ) → length xs ≤ i → all_at_most limit (drop i xs) ≡ true
-all_end limit xs i h = rw (drop_of_length-le xs h) (all_nil limit)
-
-pub ruleset each_word = (all_more, all_bad, all_end)
-
 -- the larger of two is within the limit exactly if both are
 larger-most : (limit a b : ℕ) → leb (max a b) limit ≡ (leb a limit && leb b limit)
 larger-most limit a b = go (leb a limit) refl (leb b limit) refl
@@ -62,6 +37,14 @@ larger-most limit a b = go (leb a limit) refl (leb b limit) refl
 and_step : (a b c : Bool) → ((a && b) && c) ≡ (a && (b && c))
 and_step true b c = refl
 and_step false b c = refl
+
+-- the test of a list is that of its first numbers and that of the rest
+pub all_split : (limit n : ℕ) (xs : List ℕ) → all_at_most limit xs ≡ (all_at_most limit (take n xs) && all_at_most limit (drop n xs))
+unfolding all_at_most
+all_split limit zero xs = refl
+all_split limit (suc n) [] = refl
+all_split limit (suc n) (x ∷ xs) =
+    rw (all_split limit n xs) (sym (and_step (leb x limit) (all_at_most limit (take n xs)) (all_at_most limit (drop n xs))))
 
 -- the largest of the numbers, and of m, represents all of them
 most-with : (limit m : ℕ) (xs : List ℕ) → leb (fold (λ a x. max a x) m xs) limit ≡ (leb m limit && all_at_most limit xs)
