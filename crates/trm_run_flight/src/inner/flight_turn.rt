@@ -133,10 +133,7 @@ fn wait_turn(
 fn load_waits(stops: bool, w: u32) -> bool
     ensures { result ≡ (stops && is_load w) }
 {
-    if !stops {
-        return false;
-    }
-    operands::is_load(w)
+    stops && operands::is_load(w)
 }
 
 // Phase 5: the last clock. A run that stops before an access to a device leaves that of every LD to its caller.

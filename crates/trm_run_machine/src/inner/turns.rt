@@ -57,10 +57,7 @@ pub fn turn(
 fn no_progress(stops: bool, before: usize, at: usize) -> bool
     ensures { result ≡ (stops && eqb before at) }
 {
-    if !stops {
-        return false;
-    }
-    before == at
+    stops && before == at
 }
 
 // Turn after turn, until every line byte has had its clock or, if the run stops there, an access to a device is next. The charge table

@@ -4,7 +4,7 @@
 --   Opens, opens   what is known where an instruction begins        device_first, hit-first   the first clock of LD
 --   under_at, good-under, good-at_turn, long-turned   facts of a run in a given state
 --   rests, retold, turned-from, at_from, long-from   for the loop over words
---   unraised, past-raised, raised-none   for the result of `raised`
+--   unraised, past-raised, raised_none   for the result of `raised`
 --   last-here   the clock of phase 5        entered, ended   the first of an instruction's two clocks, and the second
 use Prim.Native.Nat.{ℕ, ◌+◌, ◌/◌, ◌%◌, ◌≤◌, ◌<◌}
 use mathlib.Core.Path.{◌≡◌, refl, sym, ap, ◌∙◌, subst}
@@ -241,9 +241,9 @@ past-raised ls g j status r b h s e q = go (ℕ_discrete j g.at)
     go (no z) = omega (arith, h, z)
 
 -- a line byte of 0 means neither stall nor interrupt
-pub raised-none : (status : ℕ) → (stalled 0 || not (eqb (interrupt_chosen status 0) 0)) ≡ false
+pub raised_none : (status : ℕ) → (stalled 0 || not (eqb (interrupt_chosen status 0) 0)) ≡ false
 unfolding stalled interrupt_chosen interrupt_raised
-raised-none status = rw (and-false (is_set (bit 0 status)), and-false (is_set (bit 1 status))) (go (is_set (bit 2 status)))
+raised_none status = rw (and-false (is_set (bit 0 status)), and-false (is_set (bit 1 status))) (go (is_set (bit 2 status)))
   where
     go : (t : Bool) → not (eqb (cond t 0 0) 0) ≡ false
     go true = refl

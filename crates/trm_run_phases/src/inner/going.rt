@@ -21,10 +21,7 @@ pub struct Going {
 pub fn due(pins: &[u8], at: usize) -> bool
     ensures { result ≡ (ltb at (length pins.now) && not (stalled (get_or pins.now at 0))) }
 {
-    if at < pins.len() {
-        return !interrupt::is_stalled(pins[at]);
-    }
-    false
+    at < pins.len() && !interrupt::is_stalled(pins[at])
 }
 
 // After a clock without an answer.

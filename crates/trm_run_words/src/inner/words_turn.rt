@@ -27,11 +27,10 @@ fn enters(g: Going, phase: u64, count: u64) -> Going
     requires { (g.at ≤ 65536) × (counts_ok g.scalars.counts ≡ true) }
     ensures { result ≡ record { scalars = advanced g.scalars (in_phase phase count) 0 0; at = g.at + 1; finished = g.finished } }
 {
-    let c = scalars::advance(g.scalars, scalars::in_phase(phase, count), 0, 0);
     Going {
-        scalars: c,
+        scalars: scalars::advance(g.scalars, scalars::in_phase(phase, count), 0, 0),
         at: g.at + 1,
-        finished: g.finished,
+        ..g
     }
 }
 
@@ -115,18 +114,12 @@ fn load(
 }
 
 // Whether the store w is at a device, in a run that stops before it.
+#[tactic(auto, unfolding(trm_reference::specs::Access::is_memory))]
 fn store_waits(stops: bool, c: Scalars, regs: &[u32; 16], w: u32, n: u64) -> bool
     requires { store_length_ok n ≡ true }
     ensures { result ≡ (stops && not (is_memory (place_of_word w (gathered c regs.now) n))) }
 {
-    if !stops {
-        return false;
-    }
-    let place = operands::place_of_word(c, regs, w, n);
-    match place {
-        Place::Device(_) => true,
-        Place::Memory(_) => false,
-    }
+    stops && matches!(operands::place_of_word(c, regs, w, n), Place::Device(_))
 }
 
 // Begins the instruction w, operations 8 to 15: a match on 11 to 15; the rest are 8 to 10 (D-27).
@@ -176,16 +169,11 @@ fn begin(
 }
 
 // Whether this clock, with nothing in flight, is held or takes an interrupt; most line bytes are 0, so that is tested first.
+#[tactic(auto, using(trm_run_phases::proofs::Laws::Next::raised_none))]
 fn raised(status: u64, pins: u8) -> bool
     ensures { result ≡ (stalled pins || not (eqb (interrupt_chosen status pins) 0)) }
 {
-    if pins == 0 {
-        return false;
-    }
-    if interrupt::is_stalled(pins) {
-        return true;
-    }
-    interrupt::interrupt_chosen(status, pins) != 0
+    pins != 0 && (interrupt::is_stalled(pins) || interrupt::interrupt_chosen(status, pins) != 0)
 }
 
 // Returns g, with `running` set to the idle value it already has: the compiler then need not keep it in registers round the loop.
@@ -193,14 +181,11 @@ fn at_rest(g: Going) -> Going
     requires { g.scalars.running ≡ in_phase 0 0 }
     ensures { result ≡ g }
 {
-    let mut c = g.scalars;
-    let idle = scalars::in_phase(0, 0);
-    c.running = idle;
-    Going {
-        scalars: c,
-        at: g.at,
-        finished: g.finished,
-    }
+    let scalars = Scalars {
+        running: scalars::in_phase(0, 0),
+        ..g.scalars
+    };
+    Going { scalars, ..g }
 }
 
 // Instruction after instruction, until a clock is held or takes an interrupt, one is left in flight, or the line bytes end; if the run
