@@ -5,7 +5,8 @@
 --   view G ca s a   memory word a        copy_of   all words
 --   emptied, cleaned, filled, with_word, stored_to   the cache after a change of one line
 --   write_word, fill_word   one clock of a burst      count_dirty, first_dirty, all_emptied   for turning the cache off
-use Rattle.std.specs.Prelude.{ℕ, zero, suc, ◌≡◌, ◌+◌, ◌-◌, ◌*◌, ◌%◌, Bool, cond, ◌&&◌, List, [], ◌∷◌, length, get_or, set, take, drop, leb, eqb}
+use Rattle.std.specs.Prelude.{ℕ, zero, suc, ◌≡◌, ◌+◌, ◌-◌, ◌*◌, ◌%◌, Bool, cond, ◌&&◌, List, [], ◌∷◌, length, get_or, set, take, drop, leb}
+use Rattle.std.specs.Prelude.{eqb}
 use Rattle.trm_word.specs.Condition.{is_set}
 use Rattle.trm_reference.specs.Geometry.{Geometry, block_of, line_of}
 use Rattle.trm_reference.specs.History.{how_many}

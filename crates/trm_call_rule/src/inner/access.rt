@@ -1,8 +1,6 @@
 // Which row of the clock table applies to the word at PC, and the cache line of its access.
 // Paper: "12 or 13 to memory", "cache on and off", "operation 8 or 9", "14 taken", "11 with bit 10 set", "its block in the line".
 // Each test is defined in trm_reference, or in trm_core if it depends on the cache.
-#![tactic(auto, unfolding(trm_reference::specs::Access::is_memory, trm_reference::specs::Access::to_memory, trm_reference::specs::Access::to_device, trm_reference::specs::Access::target_block, trm_reference::specs::Access::target_line, trm_reference::specs::Charge::is_stepped, trm_reference::specs::Charge::is_jump, trm_reference::specs::Charge::takes_branch, trm_reference::specs::Charge::through_cache, trm_reference::specs::Charge::without_cache, trm_reference::specs::Geometry::block_of, trm_reference::specs::Geometry::line_of, trm_core::specs::Clock::line_for, trm_core::specs::Clock::hits,))]
-
 ghost use Rattle.std.specs.Prelude.{◌≡◌, true, ◌<◌};
 ghost use Rattle.trm_word.specs.Address.{store_length_ok};
 ghost use Rattle.trm_reference.specs.Geometry.{paper_geometry};
@@ -79,7 +77,8 @@ impl Situation<'_> {
     // The line of the access.
     #[tactic(auto, unfolding(trm_reference::specs::Access::target_line, trm_reference::specs::Geometry::line_of))]
     pub fn target_line(&self) -> usize
-        ensures { (result ≡ target_line paper_geometry self.now.w (gathered self.now.c self.now.regs.now) self.now.n) × (result < 16) }
+        ensures { (result ≡ target_line paper_geometry self.now.w
+            (gathered self.now.c self.now.regs.now) self.now.n) × (result < 16) }
     {
         (self.target_block() % 16) as usize
     }
@@ -119,7 +118,8 @@ impl Situation<'_> {
     // Whether the line of the access is full.
     #[tactic(auto, unfolding(trm_core::specs::Clock::line_for))]
     pub fn line_for_full(&self) -> bool
-        ensures { result ≡ (line_for paper_geometry self.now.w self.now.n (gathered self.now.c self.now.regs.now) self.now.cache.now).full }
+        ensures { result ≡ (line_for paper_geometry self.now.w self.now.n
+            (gathered self.now.c self.now.regs.now) self.now.cache.now).full }
     {
         self.cache.line_full(self.target_line())
     }
@@ -127,7 +127,8 @@ impl Situation<'_> {
     // Whether the line of the access is dirty.
     #[tactic(auto, unfolding(trm_core::specs::Clock::line_for))]
     pub fn line_for_dirty(&self) -> bool
-        ensures { result ≡ (line_for paper_geometry self.now.w self.now.n (gathered self.now.c self.now.regs.now) self.now.cache.now).dirty }
+        ensures { result ≡ (line_for paper_geometry self.now.w self.now.n
+            (gathered self.now.c self.now.regs.now) self.now.cache.now).dirty }
     {
         self.cache.line_dirty(self.target_line())
     }

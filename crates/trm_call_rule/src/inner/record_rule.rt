@@ -2,8 +2,6 @@
 // Paper: "The record holds phase and count: ..", "Phase 1 needs ..", row 5 of the table.
 // The parts are those of trm_core's Rule; each stops at the first clause that fails. The counts of phases 1 and 4 are bounded by the
 // table of base charges in trm_word.
-#![tactic(auto, unfolding(trm_core::specs::Rule::widths_ok, trm_core::specs::Rule::counts_ok, trm_core::specs::Rule::registers_ok, trm_core::specs::Rule::arithmetic_ok, trm_core::specs::Rule::writeback_ok, trm_core::specs::Rule::refill_ok, trm_core::specs::Rule::wait_ok, trm_core::specs::Rule::due_ok, trm_core::specs::Rule::phase_ok, trm_core::specs::Rule::marks_ok, trm_core::specs::Rule::line_ok, trm_core::specs::Rule::record_ok, trm_core::specs::Record::product_at, trm_core::specs::Record::remainder_at, trm_core::specs::Record::quotient_at,))]
-
 ghost use Rattle.std.specs.Prelude.{◌≡◌, true, not, ◌&&◌, ◌<◌, ◌≤◌, get_or, eqb};
 ghost use Rattle.trm_word.specs.Address.{store_length_ok};
 ghost use Rattle.trm_reference.specs.Geometry.{paper_geometry};
@@ -125,7 +123,8 @@ impl Situation<'_> {
 
     // Phase 2 for an access: its line is full and dirty, and holds another block.
     fn evicts(&self) -> bool
-        ensures { result ≡ ((line_for paper_geometry self.now.w self.now.n (gathered self.now.c self.now.regs.now) self.now.cache.now).full
+        ensures { result ≡ ((line_for paper_geometry self.now.w self.now.n
+            (gathered self.now.c self.now.regs.now) self.now.cache.now).full
             && (line_for paper_geometry self.now.w self.now.n (gathered self.now.c self.now.regs.now) self.now.cache.now).dirty
             && not (hits paper_geometry self.now.w self.now.n (gathered self.now.c self.now.regs.now) self.now.cache.now)) }
     {
@@ -135,7 +134,8 @@ impl Situation<'_> {
     // Phase 2, write-back.
     #[tactic(auto, unfolding(trm_core::specs::Rule::writeback_ok, trm_reference::specs::Geometry::burst))]
     fn writeback_ok(&self, count: u64) -> bool
-        ensures { result ≡ writeback_ok paper_geometry self.now.w self.now.n count (gathered self.now.c self.now.regs.now) self.now.cache.now }
+        ensures { result ≡ writeback_ok paper_geometry self.now.w self.now.n count
+            (gathered self.now.c self.now.regs.now) self.now.cache.now }
     {
         if count >= 10 {
             return false;
@@ -149,7 +149,8 @@ impl Situation<'_> {
     // Phase 3, refill.
     #[tactic(auto, unfolding(trm_core::specs::Rule::refill_ok, trm_reference::specs::Geometry::burst))]
     fn refill_ok(&self, count: u64) -> bool
-        ensures { result ≡ refill_ok paper_geometry self.now.w self.now.n count (gathered self.now.c self.now.regs.now) self.now.cache.now }
+        ensures { result ≡ refill_ok paper_geometry self.now.w self.now.n count
+            (gathered self.now.c self.now.regs.now) self.now.cache.now }
     {
         if count >= 10 {
             return false;
@@ -197,7 +198,8 @@ impl Situation<'_> {
     // Phase and count.
     #[tactic(auto, unfolding(trm_core::specs::Rule::phase_ok))]
     fn phase_ok(&self) -> bool
-        ensures { result ≡ phase_ok paper_geometry self.now.w self.now.n self.now.c.running (gathered self.now.c self.now.regs.now) self.now.cache.now }
+        ensures { result ≡ phase_ok paper_geometry self.now.w self.now.n self.now.c.running
+            (gathered self.now.c self.now.regs.now) self.now.cache.now }
     {
         let count = self.c.running.count;
         match self.c.running.phase {

@@ -1,5 +1,6 @@
 -- The record's arrays have the lengths of their types (`Shaped`, D-31).
--- Idea: each field of a value of the record's type is a value of the field's type, and an array's type fixes its length. `g` is the cache's.
+-- Idea: each field of a value of the record's type is a value of the field's type, and an array's type fixes its length.
+-- `g` are the fields of the cache.
 use mathlib.Core.Path.{◌≡◌, sym}
 use mathlib.Core.List.{List}
 use lib.ListN.{length}

@@ -40,7 +40,9 @@ pub struct Charges {
 }
 
 impl Charges {
-    pub fn new() -> Charges {
+    pub fn new() -> Charges
+        ensures { result.table ≡ charges }
+    {
         Charges {
             table: BASE_CHARGES,
         }

@@ -8,6 +8,6 @@ use Rattle.trm_call_rule.proofs.inner.record_rule.record_ok.Goals.{then-widths_o
 pub registers_ok-requires : goal.registers_ok-requires
 registers_ok-requires c =
     elim c.if-widths_ok.branch [
-      then-widths_ok w ↦ stepped-count _ _ _ _ _ (sym w.phase_ok.ensures ∙ (sym w.value-is ∙ c.if-phase_ok.true))
-    | else-widths_ok w ↦ clash (sym w.if-widths_ok.false ∙ (sym w.value-is ∙ c.if-phase_ok.true))
+      | then-widths_ok w ↦ stepped-count _ _ _ _ _ (sym w.phase_ok.ensures ∙ (sym w.value-is ∙ c.if-phase_ok.true))
+      | else-widths_ok w ↦ clash (sym w.if-widths_ok.false ∙ (sym w.value-is ∙ c.if-phase_ok.true))
     ]

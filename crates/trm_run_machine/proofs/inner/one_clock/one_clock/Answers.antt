@@ -9,7 +9,11 @@ use Rattle.trm_run_machine.proofs.inner.one_clock.one_clock.Goals as goal
 
 pub all_turns-g-requires : goal.all_turns-g-requires
 all_turns-g-requires c =
-    record { from = _; so = begun _ _ _ _ _ _ _ _ (one_free _ _ _ _ _ 0 0 c.requires) (shaped-by (parts c.args.c c.args.regs.now c.args.cache.now) c.told-regs c.sized.ensures) refl refl }
+    record {
+      from = _;
+      so = begun _ _ _ _ _ _ _ _ (one_free _ _ _ _ _ 0 0 c.requires)
+          (shaped-by (parts c.args.c c.args.regs.now c.args.cache.now) c.told-regs c.sized.ensures) refl refl;
+    }
 
 pub shape_of-store : goal.shape_of-store
 shape_of-store c =
@@ -20,4 +24,5 @@ pub returns : goal.returns
 returns c =
     one-ran _ _ _ _ _ _ _ _ (reached-end _ _ _ _ _ _ _ (c.all_turns-g.ensures.0 _
     (begun _ _ _ _ _ _ _ _
-    (one_free _ _ _ _ _ 0 0 c.requires) (shaped-by (parts c.args.c c.args.regs.now c.args.cache.now) c.told-regs c.sized.ensures) refl refl)) (c.all_turns-g.ensures.1 refl))
+    (one_free _ _ _ _ _ 0 0 c.requires) (shaped-by (parts c.args.c c.args.regs.now c.args.cache.now) c.told-regs c.sized.ensures) refl
+    refl)) (c.all_turns-g.ensures.1 refl))
