@@ -80,7 +80,7 @@ impl Cache {
         requires { l < 16 }
         ensures { self.new ≡ cleaned self.old l }
     {
-        self.dirty[l] = 0;
+        self.dirty[l] = 0; // its words are in the store
     }
 
     // Marks the line full with block b, and clean.
