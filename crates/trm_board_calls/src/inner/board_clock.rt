@@ -65,7 +65,7 @@ pub fn board_clock(
     let devices = device_clock::device_clock(d, line, after.counts.clocks, t.byte, t.word);
     Stepped {
         scalars: after,
-        devices: devices,
+        devices,
         level: level as u8,
         byte: t.byte,
         word: t.word,
