@@ -60,12 +60,11 @@ pub fn board_clock(
     let device = device_read::device_read(c, regs, program, store.len() as u64, pins);
     let input = device_reads::reply_of(serial, c.counts.clocks, switches, device);
     let t = one_clock::one_clock(c, program, regs, cache, store, pins, input);
-    let after = t.scalars;
     let line = line_of(joined, level, given);
-    let devices = device_clock::device_clock(d, line, after.counts.clocks, t.byte, t.word);
+    let devices = device_clock::device_clock(d, line, t.scalars.counts.clocks, t.byte, t.word);
     Stepped {
-        scalars: after,
-        devices: devices,
+        scalars: t.scalars,
+        devices,
         level: level as u8,
         byte: t.byte,
         word: t.word,

@@ -46,20 +46,17 @@ fn quiet_ahead(
         × (g.at ≤ result.at) }
 {
     let at = g.at;
-    let c = g.scalars;
-    let d = g.devices;
-    let count = c.counts.clocks;
+    let count = g.scalars.counts.clocks;
     let k = stretch::stretch(at, given.len(), count);
-    let lines = quiet_devices::line_bytes(d.tick, given, at, k);
-    let h = quiet_clocks::quiet_clocks(c, program, regs, cache, store, &lines[..k]);
+    let lines = quiet_devices::line_bytes(g.devices.tick, given, at, k);
+    let h = quiet_clocks::quiet_clocks(g.scalars, program, regs, cache, store, &lines[..k]);
     let to = at + h.at;
     let devices = quiet_devices::devices_ahead(
-        d, count, joined, given, levels, bytes, outs, at, to,
+        g.devices, count, joined, given, levels, bytes, outs, at, to,
     );
-    let after = h.scalars;
     Gone {
-        scalars: after,
-        devices: devices,
+        scalars: h.scalars,
+        devices,
         at: to,
         finished: g.finished + h.finished,
     }
@@ -89,11 +86,9 @@ fn next_clock(
         × (result.at ≡ g.at + 1) }
 {
     let at = g.at;
-    let c = g.scalars;
-    let d = g.devices;
     let t = board_clock::board_clock(
-        c,
-        d,
+        g.scalars,
+        g.devices,
         program,
         regs,
         cache,
@@ -105,11 +100,9 @@ fn next_clock(
     levels[at] = t.level;
     bytes[at] = t.byte;
     outs[at] = t.word;
-    let after = t.scalars;
-    let next = t.devices;
     Gone {
-        scalars: after,
-        devices: next,
+        scalars: t.scalars,
+        devices: t.devices,
         at: at + 1,
         finished: g.finished + t.finished,
     }

@@ -1,7 +1,7 @@
 // Which device a clock is about to read: asked before the clock, since the input word goes in with it.
 // Paper: "a device is read or written only in that clock": an LD from a device reads it in its second clock, and in no other.
 // A held clock reads nothing. That the clock's own answer byte names the same device is claimed in specs/Claims.antt.
-ghost use Rattle.std.specs.Prelude.{◌≡◌, true};
+ghost use Rattle.std.specs.Prelude.{◌≡◌, true, unwrap_or};
 ghost use Rattle.trm_word.specs.Address.{store_length_ok};
 ghost use Rattle.trm_reference.specs.Visible.{word_at};
 ghost use Rattle.trm_core.specs.Record.{gathered};
@@ -12,31 +12,29 @@ use trm_clock_scalars::inner::interrupt;
 use trm_core::record::Scalars;
 use trm_word::inner::address::Place;
 
-// The device of a place; 64, which is no device, for memory.
-fn device_at(place: Place) -> u64
-    ensures { result ≡ device_at place }
+// The device of a place, if it is not memory; the definition has 64 there, which is no device.
+#[tactic(auto, unfolding(crate::specs::Device::device_at))]
+fn device_at(place: Place) -> Option<u64>
+    ensures { unwrap_or result 64 ≡ device_at place }
 {
     match place {
-        Place::Device(d) => d,
-        Place::Memory(_) => 64,
+        Place::Device(d) => Some(d),
+        Place::Memory(_) => None,
     }
 }
 
-// The device that a clock with this line byte reads, 64 if none; n is the store's length.
-pub fn device_read(c: Scalars, regs: &[u32; 16], program: &[u32], n: u64, pins: u8) -> u64
+// The device that a clock with this line byte reads, if any; n is the store's length.
+#[tactic(auto, unfolding(crate::specs::Device::device_due))]
+pub fn device_read(c: Scalars, regs: &[u32; 16], program: &[u32], n: u64, pins: u8) -> Option<u64>
     requires { store_length_ok n ≡ true }
-    ensures { result ≡ device_due (word_at program.now c.pc) n c.running.phase (gathered c regs.now) pins }
+    ensures { unwrap_or result 64 ≡ device_due (word_at program.now c.pc) n c.running.phase (gathered c regs.now) pins }
 {
-    if c.running.phase != 5 {
-        return 64;
-    }
-    if interrupt::is_stalled(pins) {
-        return 64;
+    if c.running.phase != 5 || interrupt::is_stalled(pins) {
+        return None;
     }
     let w = operands::word_at(program, c.pc);
     if !operands::is_load(w) {
-        return 64;
+        return None;
     }
-    let place = operands::place_of_word(c, regs, w, n);
-    device_at(place)
+    device_at(operands::place_of_word(c, regs, w, n))
 }
