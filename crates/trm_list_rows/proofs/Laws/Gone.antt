@@ -1,16 +1,16 @@
 -- Clocks of a word in flight that do not execute it: they have no row, and the word stays in flight.
 -- Idea: they are a run of that many clocks with equal inputs, none of which executes a word.
-use Prim.Native.Nat.{ℕ, zero, suc, ◌+◌, ◌-◌, ◌≤◌, ◌<◌}
+use Prim.Native.Nat.{ℕ, zero, suc, ◌+◌, ◌-◌, ◌≤◌}
 use mathlib.Core.Path.{◌≡◌, refl, sym, ap, ◌∙◌, subst}
 use mathlib.Core.Logic.{◌≢◌}
-use mathlib.Core.Bool.{Bool, true, false, cond}
+use mathlib.Core.Bool.{true, false, cond}
 use mathlib.Core.List.{List, [], ◌∷◌, ◌++◌, append_assoc}
 use native.Mathlib.Omega.{arith}
 use native.Mathlib.Nat.{le_of_suc-le-suc}
 use lib.ListN.{length, take, replicate, length-replicate}
-use lib.Dec.{eqb, ltb}
-use borrow.Author.Tests.{eq-eqb, ne_eqb, le-leb, ltb-true, ltb-false}
-use Rattle.trm_laws.proofs.Tests.{◌&t◌, chosen}
+use lib.Dec.{eqb}
+use borrow.Author.Tests.{eq-eqb, ne_eqb, le-leb}
+use Rattle.trm_laws.proofs.Tests.{◌&t◌}
 use Rattle.trm_reference.specs.Geometry.{paper_geometry}
 use Rattle.trm_reference.specs.Visible.{word_at}
 use Rattle.trm_reference.specs.Interrupt.{stalled, interrupt_chosen}
@@ -40,24 +40,6 @@ pub taken-idle : (x : Lent) (i : Pins) (to : ℕ) → x.machine.scalars.running.
     → to ≡ interrupt_chosen x.machine.scalars.status i.line_byte → interrupt_at x i ≡ to
 unfolding interrupt_at
 taken-idle x i to z e = rw (eq-eqb x.machine.scalars.running.phase 0 z) (sym e)
-
--- the smaller of two numbers is at most each
-pub least-bounds : (a b r : ℕ) → r ≡ cond (ltb a b) a b → (r ≤ a) × (r ≤ b)
-least-bounds a b r e = go (ltb a b) refl
-  where
-    go : (t : Bool) → ltb a b ≡ t → (r ≤ a) × (r ≤ b)
-    go true h =
-        let x : r ≡ a = e ∙ ap (λ (t : Bool). cond t a b) h in
-        let l : a < b = ltb-true a b h in
-        (omega arith, omega arith)
-    go false h =
-        let x : r ≡ b = e ∙ ap (λ (t : Bool). cond t a b) h in
-        let l : b ≤ a = ltb-false a b h in
-        (omega arith, omega arith)
-
--- and it is above 0 if both are
-pub least-some : (a b r : ℕ) → r ≡ cond (ltb a b) a b → 0 < a → 0 < b → 0 < r
-least-some a b r e p q = subst (λ k. 0 < k) (sym e) (chosen (λ k. 0 < k) (ltb a b) p q)
 
 -- lists of equal inputs
 pins-same : (m a b : ℕ) → pins_of (replicate m a) (replicate m b) ≡ replicate m (record { line_byte = a; input = b })

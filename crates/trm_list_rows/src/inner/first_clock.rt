@@ -32,8 +32,7 @@ fn first_load(
         × (c.running.phase ≡ 0) × (operation w ≡ 12) }
     ensures { Works w c input regs.old cache.old store.old result regs.new cache.new store.new }
 {
-    let place = operands::place_of_word(c, regs, w, store.len() as u64);
-    match place {
+    match operands::place_of_word(c, regs, w, store.len() as u64) {
         Place::Device(_) => outcome::enters(c, 5, 0), // the device is read in the last clock
         Place::Memory(a) => {
             if !operands::cache_on(c, regs) {
@@ -43,8 +42,7 @@ fn first_load(
             let l = (b % 16) as usize;
             if !cache.line_holds(l, b) {
                 let m = burst_clock::miss(cache, l);
-                let running = m.running;
-                return outcome::goes_on(c, running, m.refilled, m.written);
+                return outcome::goes_on(c, m.running, m.refilled, m.written);
             }
             outcome::enters(c, 5, 0)
         }
@@ -104,8 +102,7 @@ pub fn first_clock(
         × (c.running.phase ≡ 0) }
     ensures { Works w c input regs.old cache.old store.old result regs.new cache.new store.new }
 {
-    let op = w / 0x4000 % 16;
-    match op {
+    match w / 0x4000 % 16 {
         0..=10 => first_arithmetic(c, regs, cache, store, w, input, base),
         11 => begun::first_control(c, regs, cache, store, w, input),
         12 => first_load(c, regs, cache, store, w, input),

@@ -24,28 +24,27 @@ pub fn went(l: Listed, r: Clocked, w: u32, buf: &mut [u8]) -> Listed
     requires { (l.len + 32 ≤ length buf.old) × (0 < l.left) × (l.took ≤ 4294967295) }
     ensures { Went l r w buf.old result buf.new }
 {
-    let c = r.scalars;
     if r.finished != 1 {
         return Listed {
-            scalars: c,
+            scalars: r.scalars,
             left: l.left - 1,
             took: l.took + 1,
-            len: l.len,
+            ..l
         };
     }
     let len = row_text::put_row(
         buf,
         l.len,
-        c.counts.clocks,
+        r.scalars.counts.clocks,
         l.scalars.pc,
         Shown::Word(w),
         l.took + 1,
     );
     Listed {
-        scalars: c,
+        scalars: r.scalars,
         left: l.left - 1,
         took: 0,
-        len: len,
+        len,
     }
 }
 
@@ -67,6 +66,6 @@ pub fn interrupted(l: Listed, c: Scalars, to: u64, buf: &mut [u8]) -> Listed
         scalars: c,
         left: l.left - 1,
         took: 0,
-        len: len,
+        len,
     }
 }

@@ -30,8 +30,7 @@ pub fn flight_ahead(
         × (result.scalars.pc ≡ g.scalars.pc) × (result.scalars.running.phase ≡ g.scalars.running.phase) × (result.finished ≡ g.finished)
         × (result.at < length pins.now → Ends w result.scalars.running) }
 {
-    let phase = g.scalars.running.phase;
-    match phase {
+    match g.scalars.running.phase {
         1 => step_clocks::steps_ahead(g, regs, cache, store, w, pins, base),
         2 => phase_clocks::write_ahead(g, regs, cache, store, w, pins),
         3 => phase_clocks::fill_ahead(g, regs, cache, store, w, pins),
@@ -52,8 +51,7 @@ pub fn flight_end(
         × (c.running.phase ≢ 0) × Ends w c.running }
     ensures { Works w c input regs.old cache.old store.old result regs.new cache.new store.new }
 {
-    let phase = c.running.phase;
-    match phase {
+    match c.running.phase {
         1 => phase_ends::end_steps(c, regs, cache, store, w, input),
         2 => phase_ends::end_write(c, regs, cache, store, w, input),
         3 => phase_ends::end_fill(c, regs, cache, store, w, input),

@@ -1,7 +1,7 @@
 // The clocks of one run that is not held, with their rows.
 // Paper: "Kind 3 ..: count .., line byte, input word"; "an unfinished instruction has no line".
 // Clocks that cannot end a word are run together; every other clock is run alone, so that its row is known (D-66).
-ghost use Rattle.std.specs.Prelude.{◌≡◌, ◌≢◌, false, cond, List, ℕ, ◌+◌, ◌≤◌, ◌<◌, ltb, length};
+ghost use Rattle.std.specs.Prelude.{◌≡◌, ◌≢◌, false, List, ℕ, ◌+◌, ◌≤◌, ◌<◌, length};
 ghost use Rattle.trm_reference.specs.Visible.{word_at};
 ghost use Rattle.trm_reference.specs.Interrupt.{stalled, interrupt_chosen};
 ghost use Rattle.trm_clock_laws.specs.Made.{Ends};
@@ -14,16 +14,6 @@ use trm_clock_operands::inner::operands;
 use trm_clock_scalars::inner::interrupt;
 use trm_run_phases::inner::going::Going;
 use trm_word::inner::charge::Charges;
-
-// The smaller of two numbers.
-fn least(a: usize, b: usize) -> usize
-    ensures { result ≡ cond (ltb a b) a b }
-{
-    if a < b {
-        return a;
-    }
-    b
-}
 
 // A word in flight: runs those of the next m clocks that come before the last one of its phase.
 fn gone_ahead(
@@ -46,24 +36,22 @@ fn gone_ahead(
         × (l.left ≤ result.left + m)
         × (l.left < result.left + m → Ends (word_at program.now l.scalars.pc) result.scalars.running) }
 {
-    let c = l.scalars;
-    if c.running.phase == 5 {
+    if l.scalars.running.phase == 5 {
         return l; // its last clock is due
     }
-    let w = operands::word_at(program, c.pc);
+    let w = operands::word_at(program, l.scalars.pc);
     let same = [pins; 64];
     let g = Going {
-        scalars: c,
+        scalars: l.scalars,
         at: 0,
         finished: 0,
     };
     let h = phase_clock::flight_ahead(g, regs, cache, store, w, &same[..m], base);
-    let ahead = h.scalars;
     Listed {
-        scalars: ahead,
+        scalars: h.scalars,
         left: l.left - h.at,
         took: l.took + h.at as u64,
-        len: l.len,
+        ..l
     }
 }
 
@@ -87,14 +75,13 @@ fn goes_on(
         l (lent_of l regs.old cache.old store.old) buf.old result (lent_of result regs.new cache.new
         store.new) buf.new × (result.left < l.left) }
 {
-    let m = least(l.left, 64); // more clocks than a phase has
+    let m = l.left.min(64); // more clocks than a phase has
     let gone = gone_ahead(l, program, regs, cache, store, pins, input, base, m);
     if l.left - gone.left == m {
         return gone; // the run ended first
     }
-    let c = gone.scalars;
-    let w = operands::word_at(program, c.pc);
-    let r = phase_clock::flight_end(c, regs, cache, store, w, input);
+    let w = operands::word_at(program, gone.scalars.pc);
+    let r = phase_clock::flight_end(gone.scalars, regs, cache, store, w, input);
     listed::went(gone, r, w, buf)
 }
 
@@ -176,7 +163,8 @@ fn one_turn(
     begins(l, program, regs, cache, store, pins, input, base, buf)
 }
 
-// Runs the clocks of a run until none is left or the buffer has no room for a row.
+// Runs the clocks of a run until none is left or the buffer has no room for a row. No index is counted: a turn has as many clocks as go
+// together.
 pub fn list_clocks(
     l: Listed,
     program: &[u32],

@@ -15,7 +15,7 @@ enters-requires-then-not-cache_on c = c.requires.0.counts
 
 pub returns-then-not-cache_on : goal.returns-then-not-cache_on
 returns-then-not-cache_on c =
-    let g = c.requires in let p = sym c.place_of_word-place.ensures ∙
+    let g = c.requires in let p = sym c.place_of_word.ensures ∙
     c.in-Memory.is in
     goes-worked _ _ _ _ _ _ _ _ (first-wait _ _ _ _ _ (facts _ _ _ _ _ g.0) g.1 (kind_uncached _ _ _ (load_access _ g.2) _ p
     (sym c.cache_on.ensures ∙ c.if-not-cache_on.true))).0 _ _
@@ -29,7 +29,7 @@ goes_on-requires c =
 pub returns-then-not-line_holds : goal.returns-then-not-line_holds
 returns-then-not-line_holds c =
     let g = c.requires in let p = sym
-    c.place_of_word-place.ensures ∙
+    c.place_of_word.ensures ∙
     c.in-Memory.is in
     let on = sym c.cache_on.ensures ∙ c.if-not-cache_on.false in
     goes-worked _ _ _ _ _ _ _ _ (first_miss_at _ _ _ _ _ (facts _ _ _ _ _ g.0) g.1 _ p (kind-cached _ _ _ (load_access _
@@ -43,7 +43,7 @@ enters-requires-in-Memory c =
 
 pub returns-in-Device : goal.returns-in-Device
 returns-in-Device c = let g = c.requires in let p = sym
-    c.place_of_word-place.ensures ∙ c.in-Device.is in
+    c.place_of_word.ensures ∙ c.in-Device.is in
     goes-worked _ _ _ _ _ _ _ _ (first_device_load _ _ _ _ _ (facts _ _ _ _ _ g.0) g.1 (kind_device _ _ _ (load_access _
     g.2) _ p)
     (not-store _ g.2)) _ _ _ _ _ _ c.enters.ensures refl
@@ -51,7 +51,7 @@ returns-in-Device c = let g = c.requires in let p = sym
 pub returns-else-not-line_holds : goal.returns-else-not-line_holds
 returns-else-not-line_holds c =
     let g = c.requires in let p = sym
-    c.place_of_word-place.ensures ∙ c.in-Memory.is in
+    c.place_of_word.ensures ∙ c.in-Memory.is in
     let on = sym c.cache_on.ensures ∙ c.if-not-cache_on.false in
     goes-worked _ _ _ _ _ _ _ _ (first_hit_load _ _ _ _ _ (facts _ _ _ _ _ g.0) g.1 (kind-cached _ _ _ (load_access _
     g.2) _ p on)

@@ -9,8 +9,8 @@ use Rattle.trm_list_rows.proofs.Laws.Onward.{onward-none}
 use Rattle.trm_list_rows.proofs.Laws.Gone.{under_able, gone-below, onward-gone, line_bytes_same}
 use Rattle.trm_list_rows.proofs.inner.row_clocks.gone_ahead.Goals as goal
 
-pub returns-then-c-eq5 : goal.returns-then-c-eq5
-returns-then-c-eq5 c = let p5 = c.if-c-eq5.true in (
+pub returns-then-l-eq5 : goal.returns-then-l-eq5
+returns-then-l-eq5 c = let p5 = c.if-l-eq5.true in (
   λ b f. onward-none _ _ _ _ b c.requires.0 f,
   refl,
   c.requires.2,
@@ -39,7 +39,7 @@ flight_ahead-h-requires c =
       under_able _ _ c.args.l _ _ _ [] pre.0 _
           pre.3 pre.4 _ (line_bytes_same _ _ pre.4) _ c.word_at-w.ensures,
       pre.2,
-      c.if-c-eq5.false,
+      c.if-l-eq5.false,
     )
 
 pub overflow_sub-result : goal.overflow_sub-result
