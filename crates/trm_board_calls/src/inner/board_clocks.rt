@@ -108,7 +108,8 @@ fn next_clock(
     }
 }
 
-// One clock for each byte of `given`; each writes its level, answer byte and word.
+// One clock for each byte of `given`; each writes its level, answer byte and word. A `while`: the core goes ahead by as many clocks as it
+// can.
 pub fn board_clocks(
     c: Scalars,
     d: Devices,

@@ -61,7 +61,7 @@ fn no_progress(stops: bool, before: usize, at: usize) -> bool
 }
 
 // Turn after turn, until every line byte has had its clock or, if the run stops there, an access to a device is next. The charge table
-// is read once and lent to the turns (D-54).
+// is read once and lent to the turns (D-54). A `while`: a turn has as many clocks as go together.
 pub fn all_turns(
     mut g: Going,
     program: &[u32],

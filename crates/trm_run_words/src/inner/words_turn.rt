@@ -189,7 +189,7 @@ fn at_rest(g: Going) -> Going
 }
 
 // Instruction after instruction, until a clock is held or takes an interrupt, one is left in flight, or the line bytes end; if the run
-// stops before an access to a device, until that is next.
+// stops before an access to a device, until that is next. A `while`: a word takes one clock or two.
 pub fn ready_turn(
     g: Going,
     program: &[u32],
