@@ -108,8 +108,7 @@ fn next_clock(
     }
 }
 
-// One clock for each byte of `given`; each writes its level, answer byte and word. A `while`: the core goes ahead by as many clocks as it
-// can.
+// One clock for each byte of `given`; each writes its level, answer byte and word. Not a `for`: `quiet_ahead` does 0 to 64 clocks at a time.
 pub fn board_clocks(
     c: Scalars,
     d: Devices,

@@ -163,8 +163,7 @@ fn one_turn(
     begins(l, program, regs, cache, store, pins, input, base, buf)
 }
 
-// Runs the clocks of a run until none is left or the buffer has no room for a row. No index is counted: a turn has as many clocks as go
-// together.
+// Runs the clocks of a run until none is left or the buffer has no room for a row. Not a `for`: a turn has as many clocks as go together.
 pub fn list_clocks(
     l: Listed,
     program: &[u32],

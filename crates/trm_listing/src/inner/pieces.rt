@@ -53,9 +53,8 @@ pub fn first_piece(image: &[u8], program: &mut [u32], store: &mut [u32], buf: &m
     if let Err(refusal) = reader::check(image, 2048) {
         let number = u64::from(u32::from(refusal.fault));
         let len = row_text::put_refused(buf, 0, number, refusal.at as u64);
-        let none = reset::zero_record(store);
         return Listing {
-            machine: none,
+            machine: reset::zero_record(store),
             words: 0,
             at: 0,
             left: 0,
@@ -96,54 +95,43 @@ pub fn next_piece(
     requires { Ready image.now program.now store.old l × (128 ≤ length buf.old) }
     ensures { PieceHolds image.now program.now store.old buf.old l result store.new buf.new }
 {
-    let m = l.machine;
     if l.over {
-        return Listing {
-            machine: m,
-            words: l.words,
-            at: l.at,
+        return Listing { len: 0, ..l };
+    }
+    let mut m = l.machine;
+    let q = Place {
+        listed: Listed {
+            scalars: m.scalars,
             left: l.left,
-            pins: l.pins,
-            input: l.input,
             took: l.took,
             len: 0,
-            over: true,
-        };
-    }
-    let c = m.scalars;
-    let mut regs = m.regs;
-    let mut cache = m.cache;
-    let base = Charges::new();
-    let begun = Listed {
-        scalars: c,
-        left: l.left,
-        took: l.took,
-        len: 0,
-    };
-    let q = Place {
-        listed: begun,
+        },
         at: l.at,
         pins: l.pins,
         input: l.input,
     };
-    let r = runs::list_runs(q, image, program, &mut regs, &mut cache, store, &base, buf);
+    let base = Charges::new();
+    let r = runs::list_runs(
+        q,
+        image,
+        program,
+        &mut m.regs,
+        &mut m.cache,
+        store,
+        &base,
+        buf,
+    );
     let end = finish::put_last(r, buf);
-    let listed = r.listed;
-    let after = listed.scalars;
-    let machine = Machine {
-        scalars: after,
-        regs: regs,
-        cache: cache,
-    };
+    m.scalars = r.listed.scalars;
     Listing {
-        machine: machine,
-        words: l.words,
+        machine: m,
         at: r.at,
-        left: listed.left,
+        left: r.listed.left,
         pins: r.pins,
         input: r.input,
-        took: listed.took,
+        took: r.listed.took,
         len: end.len,
         over: end.over,
+        ..l
     }
 }

@@ -25,16 +25,13 @@ pub struct Place {
 }
 
 // n held clocks.
-fn hold_all(c: Scalars, n: usize) -> Scalars
+fn hold_all(mut c: Scalars, n: usize) -> Scalars
     requires { (c.counts.clocks + n ≤ 4294967295) × (c.counts.held + n ≤ 8589934591) }
     ensures { result ≡ held_by c n }
 {
-    let mut next = c;
-    let clocks = next.counts.clocks + n as u64;
-    next.counts.clocks = clocks;
-    let held = next.counts.held + n as u64;
-    next.counts.held = held;
-    next
+    c.counts.clocks += n as u64;
+    c.counts.held += n as u64;
+    c
 }
 
 // Runs the clocks of the current run until none is left or the buffer has no room for a row.
@@ -57,13 +54,10 @@ fn run_clocks(
         × (result.left ≢ 0 → length buf.old < result.len + 32) }
 {
     if interrupt::is_stalled(pins) {
-        let c = l.scalars;
-        let after = hold_all(c, l.left);
         return Listed {
-            scalars: after,
+            scalars: hold_all(l.scalars, l.left),
             left: 0,
-            took: l.took,
-            len: l.len,
+            ..l
         };
     }
     row_clocks::list_clocks(l, program, regs, cache, store, pins, input, base, buf)
@@ -114,17 +108,14 @@ fn run_here(
         (lent_of result.listed regs.new cache.new store.new) buf.new
         × (result.listed.left ≢ 0 → length buf.old < result.listed.len + 32) × (result.at ≡ q.at) }
 {
-    let l = q.listed;
-    let listed = run_clocks(l, program, regs, cache, store, q.pins, q.input, base, buf);
-    Place {
-        listed: listed,
-        at: q.at,
-        pins: q.pins,
-        input: q.input,
-    }
+    let listed = run_clocks(
+        q.listed, program, regs, cache, store, q.pins, q.input, base, buf,
+    );
+    Place { listed, ..q }
 }
 
-// Runs the current run and all later ones, until none is left or the buffer has no room for a row.
+// Runs the current run and all later ones, until none is left or the buffer has no room for a row. Not a `for`: it may stop in the middle
+// of a run, and the next piece goes on there.
 pub fn list_runs(
     q: Place,
     image: &[u8],

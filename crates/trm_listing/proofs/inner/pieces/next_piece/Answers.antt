@@ -13,9 +13,9 @@ unfolding rest_of pins_left
 returns-then-l c =
     record {
       text = rw c.if-l.true;
-      ready = λ z. clash (sym z);
+      ready = λ z. clash (sym z ∙ c.if-l.true);
       fits = omega arith;
-      goes = λ z. clash (sym z);
+      goes = λ z. clash (sym z ∙ c.if-l.true);
       words = refl;
       stored = refl;
       long = refl;
