@@ -1,14 +1,14 @@
 -- Laws of the tests over a list, what a passed row implies, and the number of a call by its first rows.
 -- Idea: the tests over a list by induction; the other laws are by cases of a Bool.
---   all_split, most-is   the tests over a list        passed_store, passed_clocks, passed_length   what a passed row implies
+--   all_joined, all_none, most-is   the tests over a list        passed_store, passed_clocks, passed_length   what a passed row implies
 --   rows   a call by its first rows: refused, passed, and then its clock count        reset_short   a reset
-use Prim.Native.Nat.{ℕ, zero, suc, max, ◌+◌, ◌^◌, ◌≤◌, ◌<◌}
+use Prim.Native.Nat.{ℕ, max, ◌+◌, ◌^◌, ◌≤◌, ◌<◌}
 use mathlib.Core.Path.{◌≡◌, refl, sym, ◌∙◌}
 use mathlib.Core.Bool.{Bool, true, false, cond, not, ◌&&◌, ◌||◌, and-true}
-use mathlib.Core.List.{List, [], ◌∷◌}
+use mathlib.Core.List.{List, [], ◌∷◌, ◌++◌}
 use native.Mathlib.Omega.{arith}
 use borrow.Author.Tests.{le-leb, lt-leb, leb-true, leb-false, ltb-true, ltb-false}
-use lib.ListN.{length, take, drop}
+use lib.ListN.{length}
 use lib.Dec.{eqb, leb, ltb}
 use Rattle.std.specs.List.{fold}
 use Rattle.trm_laws.proofs.Tests.{clash, both, all4, test_at}
@@ -38,13 +38,18 @@ and_step : (a b c : Bool) → ((a && b) && c) ≡ (a && (b && c))
 and_step true b c = refl
 and_step false b c = refl
 
--- the test of a list is that of its first numbers and that of the rest
-pub all_split : (limit n : ℕ) (xs : List ℕ) → all_at_most limit xs ≡ (all_at_most limit (take n xs) && all_at_most limit (drop n xs))
+-- the test of two lists joined is that of each
+pub all_joined : (limit : ℕ) (xs ys : List ℕ) → all_at_most limit (xs ++ ys) ≡ (all_at_most limit xs && all_at_most limit ys)
 unfolding all_at_most
-all_split limit zero xs = refl
-all_split limit (suc n) [] = refl
-all_split limit (suc n) (x ∷ xs) =
-    rw (all_split limit n xs) (sym (and_step (leb x limit) (all_at_most limit (take n xs)) (all_at_most limit (drop n xs))))
+all_joined limit [] ys = refl
+all_joined limit (x ∷ xs) ys =
+    rw (all_joined limit xs ys) (sym (and_step (leb x limit) (all_at_most limit xs) (all_at_most limit ys)))
+
+-- the test of no numbers holds
+pub all_none : (limit : ℕ) (xs : List ℕ) → length xs ≡ 0 → all_at_most limit xs ≡ true
+unfolding all_at_most
+all_none limit [] e = refl
+all_none limit (x ∷ xs) e = absurd (omega (arith, e))
 
 -- the largest of the numbers, and of m, represents all of them
 most-with : (limit m : ℕ) (xs : List ℕ) → leb (fold (λ a x. max a x) m xs) limit ≡ (leb m limit && all_at_most limit xs)

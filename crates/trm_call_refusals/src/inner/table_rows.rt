@@ -16,15 +16,12 @@ fn part_at_most(part: &[u32], limit: u32) -> bool
 pub fn all_at_most_words(list: &[u32], limit: u32) -> bool
     ensures { result ≡ all_at_most limit list.now }
 {
-    let mut rest = list;
-    while 16 <= rest.len() {
-        let (part, more) = rest.split_at(16);
+    for part in list.chunks(16) {
         if !part_at_most(part, limit) {
             return false;
         }
-        rest = more;
     }
-    part_at_most(rest, limit)
+    true
 }
 
 // Whether no byte is above the limit; without an early exit, so that many bytes are compared at once (D-59).

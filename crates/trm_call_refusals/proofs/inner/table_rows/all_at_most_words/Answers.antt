@@ -1,27 +1,25 @@
--- The test of the words left is that of their first sixteen and that of the rest (all_split).
-use mathlib.Core.Path.{◌≡◌, refl, sym, ◌∙◌}
-use lib.ListN.{drop}
-use Rattle.trm_core.specs.Refusals.{all_at_most}
-use Rattle.trm_call_refusals.proofs.Laws.{all_split}
+-- The test of the words left is that of the next part and that of the rest (all_joined).
+use mathlib.Core.Path.{refl, sym, ◌∙◌}
+use Rattle.trm_call_refusals.proofs.Laws.{all_joined, all_none}
 use Rattle.trm_call_refusals.proofs.inner.table_rows.all_at_most_words.Goals as goal
 
 pub returns-then-not-part_at_most : goal.returns-then-not-part_at_most
 returns-then-not-part_at_most c = rw (
-  ← c.loop-rest.invariant,
-  all_split c.args.limit 16 c.loop-rest.rest.now,
-  ← c.split_at.ensures.front,
+  ← c.loop-part.invariant,
+  c.in-Some.ensures.steps.1.0,
+  all_joined c.args.limit c.in-Some.part.now c.next.new.self.rest.now,
   ← c.part_at_most.ensures,
   c.if-not-part_at_most.true,
 ) refl
 
-pub loop-rest-preserved : goal.loop-rest-preserved
-loop-rest-preserved c =
-    let e : all_at_most c.args.limit c.loop-rest.rest.now ≡ all_at_most c.args.limit (drop 16 c.loop-rest.rest.now) =
-    rw (
-      all_split c.args.limit 16 c.loop-rest.rest.now,
-      ← c.split_at.ensures.front,
-      ← c.part_at_most.ensures,
-      c.if-not-part_at_most.false,
-    ) refl
-    in
-    rw c.split_at.ensures.back (sym e ∙ c.loop-rest.invariant)
+pub loop-part-preserved : goal.loop-part-preserved
+loop-part-preserved c = rw (
+  ← c.loop-part.invariant,
+  c.in-Some.ensures.steps.1.0,
+  all_joined c.args.limit c.in-Some.part.now c.next.new.self.rest.now,
+  ← c.part_at_most.ensures,
+  c.if-not-part_at_most.false,
+) refl
+
+pub returns : goal.returns
+returns c = sym (all_none c.args.limit _ c.in-None.ensures.steps.1.0) ∙ c.loop-part.invariant
