@@ -108,7 +108,8 @@ fn next_clock(
     }
 }
 
-// One clock for each byte of `given`; each writes its level, answer byte and word. Not a `for`: `quiet_ahead` does 0 to 64 clocks at once.
+// One clock for each byte of `given`; each writes its level, answer byte and word.
+// Not a `for`: `quiet_ahead` does 0 to 64 clocks at a time.
 pub fn board_clocks(
     c: Scalars,
     d: Devices,

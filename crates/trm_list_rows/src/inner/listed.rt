@@ -20,6 +20,7 @@ pub struct Listed {
 }
 
 // One clock that takes no interrupt; r is its outcome, w the word at PC. An executed word has a row.
+#[tactic(auto, using(trm_list_text::proofs::Laws::Wrote::wrote_none))]
 pub fn went(l: Listed, r: Clocked, w: u32, buf: &mut [u8]) -> Listed
     requires { (l.len + 32 ≤ length buf.old) × (0 < l.left) × (l.took ≤ 4294967295) }
     ensures { Went l r w buf.old result buf.new }
