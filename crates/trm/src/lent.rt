@@ -1,6 +1,6 @@
 // The second entry of the clock: the caller lends the record, which is changed in place.
 // Paper: "Later a second entry lends the record itself for one clock, with the same outcome".
-// It lends the record's arrays to `placed::clock` and stores the scalars that this returns (D-28).
+// It lends the record's registers and cache to `placed::clock` and stores the scalars that this returns (D-28).
 ghost use Rattle.trm.specs.Promises.{ClockNumbered, with_record};
 
 use crate::exported_answers::LentAnswer;
