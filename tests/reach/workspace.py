@@ -1,6 +1,6 @@
 # Writes the crates as a Cargo workspace with counters, under target/reach, and builds it: the archive libtrm.a, the programs, the sample.
 # Called: imported by tests/reach/run; it does nothing when run.
-# Reads: crates.txt, crates/*/src, tests/reach/stand_in for the counters and for the kit's std, tests/reach/sample.rt.
+# Reads: crates.txt, crates/*/src, tests/reach/stand_in for the counters and for the kit's std, tests/reach/sample.source.
 import os
 import re
 import shutil
@@ -12,7 +12,7 @@ from plant import Planter
 ROOT = Path(__file__).resolve().parents[2]
 CRATES = ROOT / 'crates'
 STAND_IN = ROOT / 'tests' / 'reach' / 'stand_in'
-SAMPLE = ROOT / 'tests' / 'reach' / 'sample.rt'
+SAMPLE = ROOT / 'tests' / 'reach' / 'sample.source'
 ROOM = ROOT / 'target' / 'reach'
 RELEASE = ROOM / 'target' / 'release'
 ARCHIVE = ROOM / 'archive' / 'libtrm.a'
