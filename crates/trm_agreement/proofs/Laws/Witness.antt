@@ -27,10 +27,7 @@ unfoldable pub back : core.Machine → Machine
 back m = record {
   scalars = m.scalars;
   regs = m.regs;
-  full = m.full;
-  dirty = m.dirty;
-  block = m.block;
-  words = m.words;
+  cache = record { full = m.full; dirty = m.dirty; block = m.block; words = m.words };
 }
 
 -- a reference that holds this value
