@@ -31,9 +31,6 @@ first_step-requires c = let g = c.requires in (
   g.1,
 )
 
-pub goes_on-requires : goal.goes_on-requires
-goes_on-requires c = (c.requires.0.counts, omega arith, omega arith)
-
 pub returns : goal.returns
 returns c = let g = c.requires in
     goes-worked _ _ _ _ _ _ _ _ (first-longer _ _ _ _ _ (facts _ _ _ _ _ g.0) g.1

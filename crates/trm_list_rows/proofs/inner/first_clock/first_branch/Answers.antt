@@ -9,9 +9,6 @@ use Rattle.trm_clock_laws.proofs.Laws.Worked.{goes-worked, ends-worked}
 use Rattle.trm_clock_laws.proofs.Laws.Words.{other-made}
 use Rattle.trm_list_rows.proofs.inner.first_clock.first_branch.Goals as goal
 
-pub enters-requires : goal.enters-requires
-enters-requires c = c.requires.0.counts
-
 pub returns-then-branch_taken : goal.returns-then-branch_taken
 returns-then-branch_taken c = let g = c.requires in
     goes-worked _ _ _ _ _ _ _ _ (first-second _ _ _ _ _ (facts _ _ _ _ _ g.0) g.1 (kind-taken _ _ _ g.2

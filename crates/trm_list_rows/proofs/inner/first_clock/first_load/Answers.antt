@@ -7,12 +7,6 @@ use Rattle.trm_clock_laws.proofs.Laws.Worked.{goes-worked}
 use Rattle.trm_clock_laws.proofs.Laws.Words.{wait-is, not-store}
 use Rattle.trm_list_rows.proofs.inner.first_clock.first_load.Goals as goal
 
-pub enters-requires : goal.enters-requires
-enters-requires c = c.requires.0.counts
-
-pub enters-requires-then-not-cache_on : goal.enters-requires-then-not-cache_on
-enters-requires-then-not-cache_on c = c.requires.0.counts
-
 pub returns-then-not-cache_on : goal.returns-then-not-cache_on
 returns-then-not-cache_on c =
     let g = c.requires in let p = sym c.place_of_word.ensures ∙
@@ -21,10 +15,6 @@ returns-then-not-cache_on c =
     (sym c.cache_on.ensures ∙ c.if-not-cache_on.true))).0 _ _
     _ _ _ _ c.enters-then-not-cache_on.ensures
     (wait-is _ _ _ (idle-running _ _ _ _ _ (facts _ _ _ _ _ g.0) g.1))
-
-pub goes_on-requires : goal.goes_on-requires
-goes_on-requires c =
-    (c.requires.0.counts, c.miss-m.ensures.1, c.miss-m.ensures.2)
 
 pub returns-then-not-line_holds : goal.returns-then-not-line_holds
 returns-then-not-line_holds c =
@@ -36,10 +26,6 @@ returns-then-not-line_holds c =
     g.2) _ p on)
     (sym c.line_holds.ensures ∙ c.if-not-line_holds.true)).goes _ _ _ _ _ _ c.goes_on.ensures
     (c.miss-m.ensures.0 _ _)
-
-pub enters-requires-in-Memory : goal.enters-requires-in-Memory
-enters-requires-in-Memory c =
-    c.requires.0.counts
 
 pub returns-in-Device : goal.returns-in-Device
 returns-in-Device c = let g = c.requires in let p = sym

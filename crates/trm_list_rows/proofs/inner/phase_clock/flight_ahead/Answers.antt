@@ -16,48 +16,6 @@ wait_ahead-requires c =
           n.1,
     )
 
-pub returns-in-1 : goal.returns-in-1
-returns-in-1 c = let m = c.steps_ahead.ensures in (
-  m.0,
-  m.1,
-  m.2 ∙ sym c.in-1.is,
-  m.4,
-  λ more. record {
-    steps = λ _. m.5 more;
-    writes = λ z. absurd (omega (arith, m.2, z));
-    fills = λ z. absurd (omega (arith, m.2, z));
-    waits = λ z. absurd (omega (arith, m.2, z));
-  },
-)
-
-pub returns-in-2 : goal.returns-in-2
-returns-in-2 c = let m = c.write_ahead.ensures in (
-  m.0,
-  m.1,
-  m.2 ∙ sym c.in-2.is,
-  m.4,
-  λ more. record {
-    steps = λ z. absurd (omega (arith, m.2, z));
-    writes = λ _. m.5 more;
-    fills = λ z. absurd (omega (arith, m.2, z));
-    waits = λ z. absurd (omega (arith, m.2, z));
-  },
-)
-
-pub returns-in-3 : goal.returns-in-3
-returns-in-3 c = let m = c.fill_ahead.ensures in (
-  m.0,
-  m.1,
-  m.2 ∙ sym c.in-3.is,
-  m.4,
-  λ more. record {
-    steps = λ z. absurd (omega (arith, m.2, z));
-    writes = λ z. absurd (omega (arith, m.2, z));
-    fills = λ _. m.5 more;
-    waits = λ z. absurd (omega (arith, m.2, z));
-  },
-)
-
 pub returns-in_default : goal.returns-in_default
 returns-in_default c =
     let m = c.wait_ahead.ensures in

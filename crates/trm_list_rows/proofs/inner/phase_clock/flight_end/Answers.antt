@@ -5,30 +5,6 @@ use Rattle.trm_clock_laws.proofs.Laws.Late.{late}
 use Rattle.trm_clock_laws.proofs.Laws.Worked.{ends-worked}
 use Rattle.trm_list_rows.proofs.inner.phase_clock.flight_end.Goals as goal
 
-pub end_steps-requires : goal.end_steps-requires
-end_steps-requires c =
-    let g = c.requires in
-    let k = c.in-1.is in
-    (g.0, k, g.2.steps k)
-
-pub end_write-requires : goal.end_write-requires
-end_write-requires c =
-    let g = c.requires in
-    let k = c.in-2.is in
-    (g.0, k, g.2.writes k)
-
-pub end_fill-requires : goal.end_fill-requires
-end_fill-requires c =
-    let g = c.requires in
-    let k = c.in-3.is in
-    (g.0, k, g.2.fills k)
-
-pub end_wait-requires : goal.end_wait-requires
-end_wait-requires c =
-    let g = c.requires in
-    let k = c.in-4.is in
-    (g.0, k, g.2.waits k)
-
 pub last_clock-requires : goal.last_clock-requires
 last_clock-requires c =
     let n = c.in_default.in_default-own.rest in (

@@ -12,17 +12,6 @@ first_clock-r-requires c = (
   c.requires.4,
 )
 
-pub went-requires : goal.went-requires
-went-requires c = (
-  c.requires.2,
-  c.requires.1,
-  omega (
-    arith,
-    c.requires.0.few,
-    c.requires.0.room,
-  ),
-)
-
 pub returns : goal.returns
 returns c =
     let pre = c.requires in (

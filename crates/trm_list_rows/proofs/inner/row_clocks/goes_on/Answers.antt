@@ -1,6 +1,6 @@
 -- Two continuations in sequence: the clocks of `gone_ahead`, then the last clock of the phase with its row.
 use mathlib.Core.Path.{sym, ap, ◌∙◌, subst}
-use Prim.Native.Nat.{◌≤◌, ◌<◌}
+use Prim.Native.Nat.{◌≤◌}
 use native.Mathlib.Omega.{arith}
 use Rattle.trm_reference.specs.Visible.{word_at}
 use Rattle.trm_clock_laws.specs.Made.{Ends}
@@ -8,25 +8,6 @@ use Rattle.trm_run_phases.proofs.Laws.Here.{flight_here}
 use Rattle.trm_list_rows.proofs.Laws.Onward.{onward-went, onward_then}
 use Rattle.trm_list_rows.proofs.Laws.Gone.{good-onward, none-in_flight}
 use Rattle.trm_list_rows.proofs.inner.row_clocks.goes_on.Goals as goal
-
-pub gone_ahead-gone-requires : goal.gone_ahead-gone-requires
-gone_ahead-gone-requires c =
-    let pre = c.requires in
-    (pre.0, pre.3, pre.4, omega (arith, c.min-m.ensures), omega (arith, c.min-m.ensures))
-
-pub overflow_sub-l : goal.overflow_sub-l
-overflow_sub-l c = c.gone_ahead-gone.ensures.4
-
-pub returns-then-l-gone : goal.returns-then-l-gone
-returns-then-l-gone c =
-    let g = c.gone_ahead-gone.ensures in
-    let some : 0 < c.min-m.result = omega (arith, c.min-m.ensures, c.requires.1) in (
-      g.0 _ (omega (
-        arith,
-        c.requires.2,
-      )),
-      omega (arith, c.if-l-gone.true, some, g.4),
-    )
 
 pub flight_end-r-requires : goal.flight_end-r-requires
 flight_end-r-requires c =
@@ -42,47 +23,6 @@ flight_end-r-requires c =
           c.args.program.now i) g.1))
           (g.6 (omega (arith, g.4, g.5, c.if-l-gone.false))),
     )
-
-pub went-requires : goal.went-requires
-went-requires c =
-    let g = c.gone_ahead-gone.ensures in
-    let o = g.0 c.args.buf.now (omega (
-      arith,
-      c.requires.2,
-    )) in
-    let m : c.min-m.result ≤ c.args.l.left = omega (arith, c.min-m.ensures) in (
-      omega (
-        arith,
-        c.requires.2,
-        g.3,
-      ),
-      omega (
-        arith,
-        g.4,
-        g.5,
-        c.if-l-gone.false,
-        m,
-      ),
-      omega (arith, o.able.few, o.able.room),
-    )
-
-pub shape_of-store : goal.shape_of-store
-shape_of-store c =
-    let pre = c.requires in
-    let g = c.gone_ahead-gone.ensures in
-    let o = g.0 c.args.buf.now (omega (arith, pre.2)) in
-    let m : c.min-m.result ≤ c.args.l.left = omega (arith, c.min-m.ensures) in
-    (onward_then _ _ o (onward-went _ _ _ _ _ _ _ o.able (omega (
-      arith,
-      g.4,
-      g.5,
-      c.if-l-gone.false,
-      m,
-    )) pre.3
-    (none-in_flight _ _ g.2) _ _ _ _
-    (flight_here _ _ _ _ _ _ _ c.word_at-w.ensures pre.3 g.2 _ c.flight_end-r.ensures) _
-    c.word_at-w.ensures
-    _ _ c.went.ensures)).stored
 
 pub returns : goal.returns
 returns c =

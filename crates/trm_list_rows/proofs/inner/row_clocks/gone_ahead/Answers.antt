@@ -5,33 +5,8 @@ use mathlib.Core.List.{[]}
 use lib.ListN.{length, length-replicate}
 use Rattle.trm_clock_laws.specs.Made.{Ends}
 use Rattle.trm_run_phases.specs.Reached.{point}
-use Rattle.trm_list_rows.proofs.Laws.Onward.{onward-none}
 use Rattle.trm_list_rows.proofs.Laws.Gone.{under_able, gone-below, onward-gone, line_bytes_same}
 use Rattle.trm_list_rows.proofs.inner.row_clocks.gone_ahead.Goals as goal
-
-pub returns-then-l-eq5 : goal.returns-then-l-eq5
-returns-then-l-eq5 c = let p5 = c.if-l-eq5.true in (
-  λ b f. onward-none _ _ _ _ b c.requires.0 f,
-  refl,
-  c.requires.2,
-  refl,
-  omega arith,
-  omega arith,
-  λ _. record {
-    steps = λ z. absurd (omega (arith, p5, z));
-    writes = λ z. absurd (omega (arith, p5, z));
-    fills = λ z. absurd (omega (arith, p5, z));
-    waits = λ z. absurd (omega (arith, p5, z));
-  },
-)
-
-pub slice_bounds-same-end : goal.slice_bounds-same-end
-slice_bounds-same-end c = c.requires.4
-
-pub slice_bounds-flight_ahead-end : goal.slice_bounds-flight_ahead-end
-slice_bounds-flight_ahead-end c =
-    sym (ap length (line_bytes_same _ c.args.pins
-    c.requires.4) ∙ length-replicate _ _)
 
 pub flight_ahead-h-requires : goal.flight_ahead-h-requires
 flight_ahead-h-requires c =

@@ -11,10 +11,6 @@ take_interrupt-c-requires c =
     c.requires.0 _ refl in
     (gd.widths, gd.counts)
 
-pub interrupted-requires : goal.interrupted-requires
-interrupted-requires c =
-    (c.requires.2, c.requires.1)
-
 pub returns : goal.returns
 returns c =
     let pre = c.requires in

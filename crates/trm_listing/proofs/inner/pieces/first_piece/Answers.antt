@@ -15,9 +15,6 @@ use Rattle.trm_listing.proofs.Laws.Whole.{output-refused, program_is, program-ar
 use Rattle.trm_listing.proofs.Laws.Whole.{part-long, program-read, taken, output-begun, begun-stands}
 use Rattle.trm_listing.proofs.inner.pieces.first_piece.Goals as goal
 
-pub put_refused-len-requires : goal.put_refused-len-requires
-put_refused-len-requires c = omega (arith, c.requires.2)
-
 pub returns-in-Err : goal.returns-in-Err
 unfolding rest_of pins_left
 returns-in-Err c =
@@ -53,21 +50,6 @@ load_words-requires c =
     let ok : (image_fault 2048 c.args.image.now).number ≡ 0 = sym c.in_default.ensures.number in
     let l = part-long _ ok _ c.part_at-payload.ensures in
     (omega arith, omega (arith, l, (accepted-head 2048 _ ok).long, c.requires.0), omega (arith, c.requires.0))
-
-pub load_store-at-requires : goal.load_store-at-requires
-load_store-at-requires c =
-    let ok : (image_fault 2048 c.args.image.now).number ≡ 0 = sym c.in_default.ensures.number in
-    record {
-      accepted = ok;
-      long = c.requires.1;
-    }
-
-pub zero_record-machine-requires : goal.zero_record-machine-requires
-zero_record-machine-requires c = omega (arith, c.load_store-at.ensures.long)
-
-pub put_header-len-requires : goal.put_header-len-requires
-put_header-len-requires c =
-    omega (arith, c.requires.2)
 
 pub returns : goal.returns
 unfolding rest_of pins_left

@@ -1,11 +1,11 @@
 -- By cases of whether the listing is over; else the contracts of `list_runs` and `put_last` in sequence.
 use Rattle.trm_listing.specs.Rest.{pins_left}
-use Rattle.trm_listing.proofs.Laws.Piece.{stands_in, stands-fresh, piece-text, piece-goes}
+use Rattle.trm_listing.proofs.Laws.Piece.{stands-fresh, piece-text, piece-goes}
 use mathlib.Core.Path.{refl, sym, ◌∙◌}
 use native.Mathlib.Omega.{arith}
 use Rattle.trm_laws.proofs.Tests.{clash}
 use Rattle.trm_listing.specs.Pieces.{rest_of}
-use Rattle.trm_listing.proofs.Laws.Piece.{stands_in, piece-text, piece-goes}
+use Rattle.trm_listing.proofs.Laws.Piece.{piece-text, piece-goes}
 use Rattle.trm_listing.proofs.inner.pieces.next_piece.Goals as goal
 
 pub returns-then-l : goal.returns-then-l
@@ -20,22 +20,6 @@ returns-then-l c =
       stored = refl;
       long = refl;
     }
-
-pub list_runs-r-requires : goal.list_runs-r-requires
-unfolding rest_of pins_left
-list_runs-r-requires c = stands_in _ _ _ _ _ _ (c.requires.0 c.if-l.false) (omega arith)
-
-pub put_last-end-requires : goal.put_last-end-requires
-unfolding rest_of pins_left
-put_last-end-requires c =
-    let a = c.list_runs-r.ensures.0 in (
-      a.stands.fits,
-      omega (
-        arith,
-        a.long,
-        c.requires.1,
-      ),
-    )
 
 pub returns : goal.returns
 unfolding rest_of pins_left

@@ -24,10 +24,3 @@ returns-then-is_stalled c =
           c.requires.1,
       λ z. absurd (z refl),
     )
-
-pub list_clocks-requires : goal.list_clocks-requires
-list_clocks-requires c = (
-  c.requires.0,
-  c.requires.1,
-  sym c.is_stalled.ensures ∙ c.if-is_stalled.false,
-)

@@ -2,10 +2,6 @@ use mathlib.Core.Path.{refl}
 use Rattle.trm_listing.proofs.Laws.Along.{along-clocks}
 use Rattle.trm_listing.proofs.inner.runs.run_here.Goals as goal
 
-pub run_clocks-listed-requires : goal.run_clocks-listed-requires
-run_clocks-listed-requires c =
-    (c.requires.able, c.requires.fits)
-
 pub returns : goal.returns
 returns c = (
   along-clocks _ _ _ _ _ _ _ _ c.requires c.run_clocks-listed.ensures.0,
