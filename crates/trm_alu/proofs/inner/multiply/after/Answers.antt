@@ -1,5 +1,6 @@
 -- `multiple` gives the register plus 2^63; from k = 32 on the top bit of A subtracts B × 2^31 (Laws.Product).
-use Rattle.std.proofs.Common.{◌≡◌, ℕ, ◌-◌, ◌*◌, ◌/◌, ◌%◌, ◌^◌, ◌<◌, sym, arith}
+use Rattle.std.proofs.Common.{◌≡◌, ℕ, ◌-◌, ◌*◌, ◌/◌, ◌%◌, ◌^◌, ◌<◌, refl, sym, ap, arith}
+use Rattle.trm_alu.specs.Word.{biased}
 use Rattle.trm_alu.proofs.Laws.Modular.{shl_mod}
 use Rattle.trm_alu.proofs.Laws.Product.{top, top-fits, partial-word, product-word}
 use Rattle.trm_alu.proofs.inner.multiply.after.Goals as goal
@@ -12,9 +13,12 @@ pub multiple-biased-requires : goal.multiple-biased-requires
 multiple-biased-requires c =
     let a = c.args.a in
     let k = c.args.k in
-    let l : k < 32 = omega (arith, c.if-k-lt32.true) in (
+    let w = c.from-w.result in
+    let l : k < 32 = omega (arith, c.if-k-lt32.true) in
+    let high : (w * 2 ^ (32 - k)) % 2 ^ 64 % 2 ^ 32 ≡ top a k = rw c.from-w.ensures (top-shl a k l) in
+    let low : w / 2 ^ k ≡ a / 2 ^ k = rw c.from-w.ensures refl in (
       omega (arith, c.biased-c.ensures),
-      rw (c.from-w.ensures, top-shl a k l) (top-fits a c.args.b k c.ranges.a.fits c.ranges.b.fits l),
+      omega (arith, high, low, top-fits a c.args.b k c.ranges.a.fits c.ranges.b.fits l),
     )
 
 pub returns : goal.returns
@@ -28,8 +32,12 @@ returns c =
     elim c.if-k-lt32.branch [
       | then-k-lt32 w ↦
           let l : k < 32 = omega (arith, w.if-k-lt32.true) in
-          let e = rw (c.biased-c.ensures, c.from-w.ensures, top-shl a k l) at w.multiple-biased.ensures in
-          sym (partial-word a b k word-a word-b l n (rw w.biased-is e))
+          let v = c.from-w.result in
+          let high : (v * 2 ^ (32 - k)) % 2 ^ 64 % 2 ^ 32 ≡ top a k = rw c.from-w.ensures (top-shl a k l) in
+          let low : v / 2 ^ k ≡ a / 2 ^ k = rw c.from-w.ensures refl in
+          let e = rw c.biased-c.ensures at w.multiple-biased.ensures in
+          sym (partial-word a b k word-a word-b l n
+          (omega (arith, w.biased-is, e, high, low, ap (λ t. biased b * t) high)))
       | else-k-lt32+then-a-lt2147483648 w ↦
           let e = rw (c.biased-c.ensures, c.from-w.ensures) at w.multiple.ensures in
           let low : a % 2 ^ 31 ≡ a = omega (arith, w.if-a-lt2147483648.true) in
