@@ -29,10 +29,26 @@ use Rattle.trm_core.proofs.Laws.Rule.{Phase, ready, arithmetic, write_back, clea
 use Rattle.trm_core.proofs.Laws.Phases.{charge-is, last_0, last_5}
 use Rattle.trm_clock_laws.specs.Good.{Good}
 use Rattle.trm_clock_laws.proofs.Laws.Facts.{facts}
-use Rattle.trm_clock_device.specs.Device.{device_at, device_due, device_read}
+use Rattle.std.specs.Prelude.{None, unwrap_or}
+use Rattle.trm_clock_device.specs.Device.{device_at, device_due, device_read, place_device, device_found}
 
 abbrev pins : ℕ → ℕ → Pins
 pins line_byte input = record { line_byte = line_byte; input = input }
+
+-- the option names the same device as the number
+found-by : (p s l : Bool) (x : Place)
+    → unwrap_or (cond (not p) None (cond s None (cond l (place_device x) None))) 64 ≡ cond (p && not s && l) (device_at x) 64
+unfolding device_at place_device
+found-by false s l x = refl
+found-by true true l x = refl
+found-by true false false x = refl
+found-by true false true (Device d) = refl
+found-by true false true (Memory a) = refl
+
+pub found_due : (w n phase : ℕ) (v : Visible) (line_byte : ℕ)
+    → unwrap_or (device_found w n phase v line_byte) 64 ≡ device_due w n phase v line_byte
+unfolding device_found device_due
+found_due w n phase v line_byte = found-by (eqb phase 5) (stalled line_byte) (is_load w) (place_of_word w v n)
 
 -- a held clock reads nothing, in any phase
 held_none : (t : Bool) → t && false ≡ false
