@@ -38,5 +38,6 @@ overflow_cast-result c =
 
 pub returns : goal.returns
 returns c =
-    clock-is _ _ _ _ c.requires _ _ _ _ _ _ _ _ _ _ c.pins_byte-pins.ensures.0
-    (ap (λ d. unwrap_or d 64) c.device_read-device.ensures ∙ found_due _ _ _ _ _) c.reply_of-input.ensures c.one_clock-t.ensures c.level_sent-level.ensures.0 c.line_of-line.ensures.0 c.device_clock-devices.ensures
+    let due = ap (λ d. unwrap_or d 64) c.device_read-device.ensures ∙ found_due _ _ _ _ _ in
+    clock-is _ _ _ _ c.requires _ _ _ _ _ _ _ _ _ _ c.pins_byte-pins.ensures.0 due c.reply_of-input.ensures c.one_clock-t.ensures
+    c.level_sent-level.ensures.0 c.line_of-line.ensures.0 c.device_clock-devices.ensures
