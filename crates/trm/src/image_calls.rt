@@ -39,8 +39,9 @@ pub struct PartAnswer {
 pub fn trm_image_payload(image: &[u8], at: usize) -> PartAnswer
     ensures { PayloadPart image.now at result }
 {
-    match reader::payload(image, at) {
-        Ok(payload) => PartAnswer {
+    let payload = reader::payload(image, at);
+    match reader::payload_fault(image, at) {
+        Ok(()) => PartAnswer {
             number: 0,
             start: (at + 6) as u64,
             length: payload.len() as u64,

@@ -1,7 +1,7 @@
 // The calls on an image: the check of a whole image, and a record's payload as a slice of the image.
 // Paper: "checks it whole"; "The reader hands back the payload as a part of the image itself".
 // Any bytes, any offset and any store length give a result; nothing is written.
-ghost use Rattle.std.specs.Prelude.{◌≡◌, IfOk};
+ghost use Rattle.std.specs.Prelude.{◌≡◌};
 ghost use Rattle.trm_image.specs.Numbers.{refusal_number};
 ghost use Rattle.trm_image.specs.Refused.{payload_fault};
 ghost use Rattle.trm_image.specs.Promises.{CheckHolds, payload_gives};
@@ -33,12 +33,10 @@ pub fn check(image: &[u8], words: usize) -> Result<(), Refusal>
     Ok(())
 }
 
-// The payload of the record at `at` as a slice of the image. It is refused if the image is too long, if no record begins there, or if the
-// record is cut short.
-#[tactic(auto, unfolding(crate::specs::Refused::payload_fault, crate::specs::Promises::payload_gives))]
-pub fn payload(image: &[u8], at: usize) -> Result<&[u8], Fault>
-    ensures number { refusal_number result ≡ payload_fault image.now at }
-    ensures part { IfOk result (λ part. part.now ≡ payload_gives image.now at) }
+// Whether the payload of the record at `at` is refused: the image is too long, no record begins there, or the record is cut short.
+#[tactic(auto, unfolding(crate::specs::Refused::payload_fault))]
+pub fn payload_fault(image: &[u8], at: usize) -> Result<(), Fault>
+    ensures { refusal_number result ≡ payload_fault image.now at }
 {
     if image.len() > 65536 {
         return Err(Fault::Frame);
@@ -49,5 +47,16 @@ pub fn payload(image: &[u8], at: usize) -> Result<&[u8], Fault>
     if image_rows::cut_short(image, at) {
         return Err(Fault::Frame); // its end is missing
     }
-    Ok(payload_part::part_at(image, at))
+    Ok(())
+}
+
+// The payload of the record at `at` as a slice of the image; empty if it is refused.
+#[tactic(auto, unfolding(crate::specs::Promises::payload_gives))]
+pub fn payload(image: &[u8], at: usize) -> &[u8]
+    ensures { result.now ≡ payload_gives image.now at }
+{
+    match payload_fault(image, at) {
+        Ok(()) => payload_part::part_at(image, at),
+        Err(_) => &image[0..0],
+    }
 }

@@ -42,13 +42,16 @@ fn multiple(c: u64, t: u64, y: u64) -> u64
     (0x8000_0000_0000_0000 - 0x8000_0000 * t) + c * t + y
 }
 
+// The steps of a multiplication. A name of its own, so that a wrong version can change it alone.
+const STEPS: u64 = 32;
+
 // The register after k steps, and the product from 32 on, in closed form.
 pub fn after(a: u32, b: u32, k: u64) -> u64
     ensures { result ≡ mul_after a b k }
 {
     let c = super::sums::biased(b);
     let w = u64::from(a);
-    let biased = if k < 32 {
+    let biased = if k < STEPS {
         multiple(c, (w << (32 - k)) % 0x1_0000_0000, w >> k)
     } else if a < 0x8000_0000 {
         multiple(c, w, 0)

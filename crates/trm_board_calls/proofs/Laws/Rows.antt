@@ -59,7 +59,7 @@ module _ (p : List ℕ) (x : Board Lent) where
   unfolding board_rows
   board-rest rest h = rows-rest paper_geometry p x.core.machine x.core.store _ h.core ∙ rw h.devices
 
-  board-kept : (rest : ℕ) → eqb (board_rows p x 0) 0 ≡ false → board_rows p x 0 ≡ board_rows p x rest
+  pub board-kept : (rest : ℕ) → eqb (board_rows p x 0) 0 ≡ false → board_rows p x 0 ≡ board_rows p x rest
   unfolding board_rows record_rows
   board-kept rest = go (program_ok p) (store_ok x.core.machine x.core.store)
       (record_ok paper_geometry p (length x.core.store) x.core.machine) (devices_ok paper_timing x.devices)

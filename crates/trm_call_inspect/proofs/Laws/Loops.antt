@@ -2,7 +2,7 @@
 -- Idea: what holds below i and for i holds below i + 1; two lists are equal if all their words are.
 --   Copied, copied_none, copied_more, copied_end   the invariant of the copy: before, during and after the loop
 --   first_holds   the answer of the watch        shows_is   the test of a byte
-use Prim.Native.Nat.{ℕ, ◌+◌, ◌/◌, ◌%◌, ◌≤◌, ◌<◌}
+use Prim.Native.Nat.{ℕ, ◌+◌, ◌*◌, ◌/◌, ◌%◌, ◌≤◌, ◌<◌}
 use mathlib.Core.Path.{◌≡◌, refl, sym, ap, ◌∙◌}
 use mathlib.Core.Bool.{true, false, ◌&&◌}
 use mathlib.Core.List.{List}
@@ -10,6 +10,7 @@ use native.Mathlib.Omega.{arith}
 use native.Mathlib.Decide.{ℕ_discrete}
 use lib.ListN.{length, get_or, set, length-set}
 use lib.Dec.{eqb}
+use borrow.Author.Tests.{eq-eqb, ne_eqb}
 use lib.Seq.{get_or-set_same, get_or-set_other}
 use Rattle.trm_reference.specs.Geometry.{paper_geometry}
 use Rattle.trm_cache.specs.Cache.{view, copy_of}
@@ -63,6 +64,17 @@ same_by (Some x) (Some y) q h = ap Some (q x y h)
 same_by (Some x) None q h = absurd h
 
 -- the test of a byte as the code makes it
-pub shows_is : (device byte : ℕ) → byte < 256 → shows_write device byte ≡ (eqb (byte / 2 % 2) 1 && eqb (byte / 4) device)
+pub shows_is : (device byte : ℕ) → byte < 256 → shows_write device byte ≡ eqb (byte / 2) (device * 2 + 1)
 unfolding shows_write
-shows_is device byte h = let q : byte / 4 % 64 ≡ byte / 4 = omega arith in rw q refl
+shows_is device byte h = rw q (go (ℕ_discrete (byte / 2 % 2) 1) (ℕ_discrete (byte / 4) device))
+  where
+    q : byte / 4 % 64 ≡ byte / 4
+    q = omega arith
+
+    go : Dec (byte / 2 % 2 ≡ 1) → Dec (byte / 4 ≡ device)
+        → (eqb (byte / 2 % 2) 1 && eqb (byte / 4) device) ≡ eqb (byte / 2) (device * 2 + 1)
+    go (yes a) (yes b) =
+        rw (eq-eqb (byte / 2 % 2) 1 a, eq-eqb (byte / 4) device b, eq-eqb (byte / 2) (device * 2 + 1) (omega (arith, a, b))) refl
+    go (yes a) (no b) =
+        rw (eq-eqb (byte / 2 % 2) 1 a, ne_eqb (byte / 4) device b, ne_eqb (byte / 2) (device * 2 + 1) (λ e. b (omega (arith, e)))) refl
+    go (no a) d = rw (ne_eqb (byte / 2 % 2) 1 a, ne_eqb (byte / 2) (device * 2 + 1) (λ e. a (omega (arith, e)))) refl

@@ -4,12 +4,12 @@
 ghost use Rattle.std.specs.Prelude.{◌≡◌};
 ghost use Rattle.trm_core.specs.Observe.{shows_write, SightingHolds};
 
-// Whether the byte shows a write to the device: bit 1 is set, and bits 2-7 are the device.
+// Whether the byte shows a write to the device: bit 1 is set, and bits 2-7 are the device. One comparison tests both (P-34).
 #[tactic(auto, using(crate::proofs::Laws::Loops::shows_is))]
 fn shows_write(device: u32, byte: u8) -> bool
     ensures { result ≡ shows_write device byte }
 {
-    byte / 2 % 2 == 1 && (byte / 4) as u32 == device
+    u64::from(byte) / 2 == u64::from(device) * 2 + 1
 }
 
 // The first clock that writes the device, or none.

@@ -33,6 +33,60 @@ fn is_memory(place: Place) -> bool
     matches!(place, Place::Memory(_))
 }
 
+// 12 and 13 to memory.
+#[tactic(auto, unfolding(trm_reference::specs::Access::to_memory))]
+pub fn to_memory(c: Scalars, regs: &[u32; 16], w: u32, n: u64) -> bool
+    requires { store_length_ok n ≡ true }
+    ensures { result ≡ to_memory w (gathered c regs.now) n }
+{
+    operands::is_access(w) && is_memory(operands::place_of_word(c, regs, w, n))
+}
+
+// 12 and 13 to a device; the caller has tested that w is one of the two.
+#[tactic(auto, unfolding(trm_reference::specs::Access::to_device))]
+pub fn to_device(c: Scalars, regs: &[u32; 16], w: u32, n: u64) -> bool
+    requires { (store_length_ok n ≡ true) × (is_access w ≡ true) }
+    ensures { result ≡ to_device w (gathered c regs.now) n }
+{
+    !is_memory(operands::place_of_word(c, regs, w, n))
+}
+
+// The block of the access.
+#[tactic(auto, unfolding(trm_reference::specs::Access::target_block, trm_reference::specs::Geometry::block_of))]
+pub fn target_block(c: Scalars, regs: &[u32; 16], w: u32, n: u64) -> u64
+    requires { store_length_ok n ≡ true }
+    ensures { result ≡ target_block paper_geometry w (gathered c regs.now) n }
+{
+    operands::target_of(c, regs, w, n) / 8
+}
+
+// The line of the access.
+#[tactic(auto, unfolding(trm_reference::specs::Access::target_line, trm_reference::specs::Geometry::line_of))]
+pub fn target_line(c: Scalars, regs: &[u32; 16], w: u32, n: u64) -> usize
+    requires { store_length_ok n ≡ true }
+    ensures { (result ≡ target_line paper_geometry w (gathered c regs.now) n) × (result < 16) }
+{
+    (target_block(c, regs, w, n) % 16) as usize
+}
+
+// 12 and 13 to memory with the cache on.
+#[tactic(auto, unfolding(trm_reference::specs::Charge::through_cache))]
+pub fn through_cache(c: Scalars, regs: &[u32; 16], w: u32, n: u64) -> bool
+    requires { store_length_ok n ≡ true }
+    ensures { result ≡ through_cache w (gathered c regs.now) n }
+{
+    to_memory(c, regs, w, n) && operands::cache_on(c, regs)
+}
+
+// 12 and 13 to memory with the cache off.
+#[tactic(auto, unfolding(trm_reference::specs::Charge::without_cache))]
+pub fn without_cache(c: Scalars, regs: &[u32; 16], w: u32, n: u64) -> bool
+    requires { store_length_ok n ≡ true }
+    ensures { result ≡ without_cache w (gathered c regs.now) n }
+{
+    to_memory(c, regs, w, n) && !operands::cache_on(c, regs)
+}
+
 // 8 and 9, which have steps.
 #[tactic(auto, unfolding(trm_reference::specs::Charge::is_stepped))]
 pub fn is_stepped(w: u32) -> bool
@@ -41,87 +95,31 @@ pub fn is_stepped(w: u32) -> bool
     matches!(w / 0x4000 % 16, 8 | 9)
 }
 
+// 11 with bit 10 set.
+#[tactic(auto, unfolding(trm_reference::specs::Charge::is_jump))]
+pub fn is_jump(w: u32) -> bool
+    ensures { result ≡ is_jump w }
+{
+    w / 0x4000 % 16 == 11 && w / 1024 % 2 == 1
+}
+
+// 14 taken.
+#[tactic(auto, unfolding(trm_reference::specs::Charge::takes_branch))]
+pub fn takes_branch(c: Scalars, regs: &[u32; 16], w: u32) -> bool
+    ensures { result ≡ takes_branch w (gathered c regs.now) }
+{
+    w / 0x4000 % 16 == 14 && operands::branch_taken(c, regs, w)
+}
+
 impl Situation<'_> {
-    // The device, or the index in the store, that LD and ST access.
-    fn place(&self) -> Place
-        ensures { result ≡ place_of_word self.now.w (gathered self.now.c self.now.regs.now) self.now.n }
-    {
-        operands::place_of_word(self.c, self.regs, self.w, self.n)
-    }
-
-    // 12 and 13 to memory.
-    #[tactic(auto, unfolding(trm_reference::specs::Access::to_memory))]
-    pub fn to_memory(&self) -> bool
-        ensures { result ≡ to_memory self.now.w (gathered self.now.c self.now.regs.now) self.now.n }
-    {
-        operands::is_access(self.w) && is_memory(self.place())
-    }
-
-    // 12 and 13 to a device; the caller has tested that w is one of the two.
-    #[tactic(auto, unfolding(trm_reference::specs::Access::to_device))]
-    pub fn to_device(&self) -> bool
-        requires { is_access self.now.w ≡ true }
-        ensures { result ≡ to_device self.now.w (gathered self.now.c self.now.regs.now) self.now.n }
-    {
-        !is_memory(self.place())
-    }
-
-    // The block of the access.
-    #[tactic(auto, unfolding(trm_reference::specs::Access::target_block, trm_reference::specs::Geometry::block_of))]
-    pub fn target_block(&self) -> u64
-        ensures { result ≡ target_block paper_geometry self.now.w (gathered self.now.c self.now.regs.now) self.now.n }
-    {
-        operands::target_of(self.c, self.regs, self.w, self.n) / 8
-    }
-
-    // The line of the access.
-    #[tactic(auto, unfolding(trm_reference::specs::Access::target_line, trm_reference::specs::Geometry::line_of))]
-    pub fn target_line(&self) -> usize
-        ensures { (result ≡ target_line paper_geometry self.now.w
-            (gathered self.now.c self.now.regs.now) self.now.n) × (result < 16) }
-    {
-        (self.target_block() % 16) as usize
-    }
-
-    // 12 and 13 to memory with the cache on.
-    #[tactic(auto, unfolding(trm_reference::specs::Charge::through_cache))]
-    pub fn through_cache(&self) -> bool
-        ensures { result ≡ through_cache self.now.w (gathered self.now.c self.now.regs.now) self.now.n }
-    {
-        self.to_memory() && operands::cache_on(self.c, self.regs)
-    }
-
-    // 12 and 13 to memory with the cache off.
-    #[tactic(auto, unfolding(trm_reference::specs::Charge::without_cache))]
-    pub fn without_cache(&self) -> bool
-        ensures { result ≡ without_cache self.now.w (gathered self.now.c self.now.regs.now) self.now.n }
-    {
-        self.to_memory() && !operands::cache_on(self.c, self.regs)
-    }
-
-    // 11 with bit 10 set.
-    #[tactic(auto, unfolding(trm_reference::specs::Charge::is_jump))]
-    pub fn is_jump(&self) -> bool
-        ensures { result ≡ is_jump self.now.w }
-    {
-        self.w / 0x4000 % 16 == 11 && self.w / 1024 % 2 == 1
-    }
-
-    // 14 taken.
-    #[tactic(auto, unfolding(trm_reference::specs::Charge::takes_branch))]
-    pub fn takes_branch(&self) -> bool
-        ensures { result ≡ takes_branch self.now.w (gathered self.now.c self.now.regs.now) }
-    {
-        self.w / 0x4000 % 16 == 14 && operands::branch_taken(self.c, self.regs, self.w)
-    }
-
     // Whether the line of the access is full.
     #[tactic(auto, unfolding(trm_core::specs::Clock::line_for))]
     pub fn line_for_full(&self) -> bool
         ensures { result ≡ (line_for paper_geometry self.now.w self.now.n
             (gathered self.now.c self.now.regs.now) self.now.cache.now).full }
     {
-        self.cache.line_full(self.target_line())
+        self.cache
+            .line_full(target_line(self.c, self.regs, self.w, self.n))
     }
 
     // Whether the line of the access is dirty.
@@ -130,7 +128,8 @@ impl Situation<'_> {
         ensures { result ≡ (line_for paper_geometry self.now.w self.now.n
             (gathered self.now.c self.now.regs.now) self.now.cache.now).dirty }
     {
-        self.cache.line_dirty(self.target_line())
+        self.cache
+            .line_dirty(target_line(self.c, self.regs, self.w, self.n))
     }
 
     // Whether the line of the access holds its block.
@@ -138,7 +137,9 @@ impl Situation<'_> {
     pub fn hits(&self) -> bool
         ensures { result ≡ hits paper_geometry self.now.w self.now.n (gathered self.now.c self.now.regs.now) self.now.cache.now }
     {
-        self.cache
-            .line_holds(self.target_line(), self.target_block())
+        self.cache.line_holds(
+            target_line(self.c, self.regs, self.w, self.n),
+            target_block(self.c, self.regs, self.w, self.n),
+        )
     }
 }

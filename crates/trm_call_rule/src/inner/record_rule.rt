@@ -114,7 +114,7 @@ impl Situation<'_> {
     fn wait_ok(&self, count: u64) -> bool
         ensures { result ≡ wait_ok self.now.w self.now.n count (gathered self.now.c self.now.regs.now) }
     {
-        if count < 1 || !self.without_cache() {
+        if count < 1 || !access::without_cache(self.c, self.regs, self.w, self.n) {
             return false;
         }
         let uncached = charge::base_charge((self.w / 0x4000 % 16) as usize) + 4;
@@ -140,7 +140,7 @@ impl Situation<'_> {
         if count >= 10 {
             return false;
         }
-        if self.to_memory() {
+        if access::to_memory(self.c, self.regs, self.w, self.n) {
             return self.evicts();
         }
         operands::turns_cache_off(self.c, self.regs, self.w) && any_dirty(self.cache)
@@ -155,7 +155,7 @@ impl Situation<'_> {
         if count >= 10 {
             return false;
         }
-        self.through_cache() && !self.line_for_full()
+        access::through_cache(self.c, self.regs, self.w, self.n) && !self.line_for_full()
     }
 
     // Phase 5 for 11 clearing status bit 3: no line is dirty.
@@ -171,7 +171,7 @@ impl Situation<'_> {
     fn device_due(&self) -> bool
         ensures { result ≡ (is_load self.now.w && to_device self.now.w (gathered self.now.c self.now.regs.now) self.now.n) }
     {
-        operands::is_load(self.w) && self.to_device()
+        operands::is_load(self.w) && access::to_device(self.c, self.regs, self.w, self.n)
     }
 
     // Phase 5 for LD and ST with its block in the line.
@@ -179,7 +179,7 @@ impl Situation<'_> {
         ensures { result ≡ (to_memory self.now.w (gathered self.now.c self.now.regs.now) self.now.n
             && hits paper_geometry self.now.w self.now.n (gathered self.now.c self.now.regs.now) self.now.cache.now) }
     {
-        self.to_memory() && self.hits()
+        access::to_memory(self.c, self.regs, self.w, self.n) && self.hits()
     }
 
     // Phase 5, last clock due.
@@ -187,9 +187,9 @@ impl Situation<'_> {
     fn due_ok(&self) -> bool
         ensures { result ≡ due_ok paper_geometry self.now.w self.now.n (gathered self.now.c self.now.regs.now) self.now.cache.now }
     {
-        self.takes_branch()
+        access::takes_branch(self.c, self.regs, self.w)
             || self.w / 0x4000 % 16 == 15
-            || self.is_jump()
+            || access::is_jump(self.w)
             || self.off_due()
             || self.device_due()
             || self.hit_due()

@@ -47,8 +47,11 @@ fn count_wrong(s: &[u8], at: usize) -> bool
     requires { at ≤ 65536 }
     ensures { result ≡ count_wrong s.now at }
 {
+    if bytes::half_at(s, at + 4) != 3 {
+        return false;
+    }
     let count = bytes::word_at(s, at + 6);
-    bytes::half_at(s, at + 4) == 3 && (count == 0 || count > 65536)
+    count == 0 || count > 65536
 }
 
 // 2: "kind unknown, repeated or out of order".
@@ -102,15 +105,19 @@ fn line_byte_wrong(s: &[u8], at: usize) -> bool
     bytes::half_at(s, at + 4) == 3 && bytes::byte_at(s, at + 10) > 7
 }
 
-// The first row that the record at `at` fails, if any; `before` is the kind of the record before it, 0 for none.
+// The first row that the record at `at` fails, if any; `before` is the kind of the record before it, 0 for none. Nothing is read before
+// the record is known to be whole: after that no byte of its header needs a test of its own (P-35).
 #[tactic(auto, unfolding(crate::specs::Refused::fault_at))]
 pub fn fault_at(s: &[u8], before: u32, at: usize, words: usize) -> Result<(), Fault>
     requires { (at ≤ length s.now) × (at ≤ 65536) }
     ensures { refusal_number result ≡ fault_at words s.now before at }
 {
+    if cut_short(s, at) {
+        return Err(Fault::Frame);
+    }
     let kind = bytes::half_at(s, at + 4);
     let length = bytes::word_at(s, at) as usize;
-    if cut_short(s, at) || length_wrong(kind, length, words) || count_wrong(s, at) {
+    if length_wrong(kind, length, words) || count_wrong(s, at) {
         return Err(Fault::Frame);
     }
     if !in_order(before, kind) {

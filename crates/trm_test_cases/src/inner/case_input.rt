@@ -13,7 +13,7 @@ fn is_filled(input: &mut impl Read, buf: &mut [u8]) -> io::Result<bool> {
     }
 }
 
-// Reads the next case and prints it with its label.
+// Reads the next case and prints it with its label. A line that begins with the byte 0 is printed and is no case: it ends them.
 pub fn next_case(rt: &impl Print, input: &mut impl Read) -> io::Result<Option<Case>> {
     let mut text = [0u8; 37];
     let mut label = [0u8; 18];
@@ -27,5 +27,5 @@ pub fn next_case(rt: &impl Print, input: &mut impl Read) -> io::Result<Option<Ca
     rt.write_all(&text)?;
     rt.write_all(&label)?;
     rt.write_all(b" ->")?;
-    Ok(Some(Case::from(&text)))
+    Ok((text[0] != 0).then_some(Case::from(&text)))
 }

@@ -38,9 +38,9 @@ pub fn within(list: &[u32], n: u32) -> usize
 
 // Sets `count` words from index `from` on to a value.
 pub fn fill(list: &mut [u32], from: u32, count: u32, value: u32) {
-    for word in list.iter_mut().skip(from as usize).take(count as usize) {
-        *word = value;
-    }
+    let at = within(list, from);
+    let n = within(&list[at..], count);
+    list[at..at + n].fill(value);
 }
 
 pub fn show(rt: &impl Print, list: &[u32], at: u32) -> io::Result<()> {

@@ -48,13 +48,11 @@ pub fn value_of(c: Case) -> u64 {
 pub fn on_record(rt: &impl Print, c: Case, m: Machine) -> io::Result<Machine> {
     let which = c.w0 as usize;
     match c.kind {
-        b'F' => Ok(fields::with_field(m, which, value_of(c))),
-        b'V' => {
-            print::hex(rt, fields::field(m, which), 1)?;
-            Ok(m)
-        }
-        _ => Ok(m),
+        b'F' => return Ok(fields::with_field(m, which, value_of(c))),
+        b'V' => print::hex(rt, fields::field(m, which), 1)?,
+        _ => {}
     }
+    Ok(m)
 }
 
 // The number of a call's result: 0 if it was accepted.

@@ -10,15 +10,15 @@ use Rattle.trm.proofs.image_calls.trm_image_payload.Goals as goal
 
 pub overflow_add-result : goal.overflow_add-result
 overflow_add-result c =
-    let whole = payload-whole _ _ (ap (λ k. eqb k 0) (sym c.in-Ok.ensures.number)) in
+    let whole = payload-whole _ _ (ap (λ k. eqb k 0) (sym c.in-Ok.ensures)) in
     omega (arith, whole)
 
 pub returns-in-Ok : goal.returns-in-Ok
 returns-in-Ok c =
-    let accepted = ap (λ k. eqb k 0) (sym c.in-Ok.ensures.number) in
-    payload-bytes _ _ _ accepted (ap length (c.in-Ok.ensures.part ∙ sym (gives_part _ _ accepted)))
+    let accepted = ap (λ k. eqb k 0) (sym c.in-Ok.ensures) in
+    payload-bytes _ _ _ accepted (ap length (c.payload-payload.ensures ∙ sym (gives_part _ _ accepted)))
 
 pub returns-in-Err : goal.returns-in-Err
 returns-in-Err c =
-    payload-refused _ _ _ (c.from.ensures ∙ c.in-Err.ensures.number)
+    payload-refused _ _ _ (c.from.ensures ∙ c.in-Err.ensures)
     (ap (λ k. eqb k 0) c.from.ensures ∙ number_of-some c.in-Err.fault)

@@ -1,7 +1,4 @@
-use mathlib.Core.Path.{ap, ◌∙◌}
 use native.Mathlib.Omega.{arith}
-use Rattle.std.specs.Prelude.{unwrap_or}
-use Rattle.trm_clock_device.proofs.Laws.Due.{found_due}
 use Rattle.trm_board_calls.proofs.Laws.Ready.{ready_legal, ready-count, ready-core}
 use Rattle.trm_board_calls.proofs.Laws.Clock.{clock-is}
 use Rattle.trm_board_calls.proofs.inner.board_clock.board_clock.Goals as goal
@@ -38,6 +35,5 @@ overflow_cast-result c =
 
 pub returns : goal.returns
 returns c =
-    let due = ap (λ d. unwrap_or d 64) c.device_read-device.ensures ∙ found_due _ _ _ _ _ in
-    clock-is _ _ _ _ c.requires _ _ _ _ _ _ _ _ _ _ c.pins_byte-pins.ensures.0 due c.reply_of-input.ensures c.one_clock-t.ensures
-    c.level_sent-level.ensures.0 c.line_of-line.ensures.0 c.device_clock-devices.ensures
+    clock-is _ _ _ _ c.requires _ _ _ _ _ _ _ _ _ _ c.pins_byte-pins.ensures.0 c.device_read-device.ensures.due c.reply_of-input.ensures
+    c.one_clock-t.ensures c.level_sent-level.ensures.0 c.line_of-line.ensures.0 c.device_clock-devices.ensures
