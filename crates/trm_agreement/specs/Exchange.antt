@@ -1,21 +1,19 @@
 -- An exchange: a list of calls, each with any return that its contract allows, and the log of these returns.
 -- Paper: "Demand 3 is one statement on the whole list, not one on each call"; "The clock call takes the record and returns it".
---   Starts s m, Fails s m     a reset of the store s, accepted or refused, returned the record m; where a refused one returns none, m is
---                             the record of an empty store
+--   Starts s m, Fails s m     a reset of the store s, accepted or refused, returned the record m
 --   Returned                  what a call returned: its number, the record and the store it left, and what it reports
 --   Meets p m s c a           a function that makes the call c returned a: by value, lent or a run, mixed in any way
 --   Exchange p m s cs as      every call meets its contract, and the next one is made with the record and the store left
 --   exchange_log G p m s cs as    the log of the returns, after the start
 use Rattle.std.specs.Prelude.{ℕ, ◌≡◌, ◌≢◌, cond, List, [], ◌∷◌, ◌++◌, eqb, Ok, Err}
-use Rattle.trm_reference.specs.Geometry.{Geometry, paper_geometry}
+use Rattle.trm_reference.specs.Geometry.{Geometry}
 use Rattle.trm_reference.specs.Access.{Answer, silent}
 use Rattle.trm_reference.specs.Trace.{Pins, clocks}
-use Rattle.trm_core.specs.Record.{reset_of}
 use Rattle.trm_core.specs.Clock.{clock_of}
 use Rattle.trm_call_refusals.specs.declared.refusal.Refusal.{Refusal}
 use Rattle.trm_call_refusals.specs.Numbers.{number_of as refusal_number}
 use Rattle.trm_run_machine.specs.declared.machine.Machine.{Machine}
-use Rattle.trm_run_machine.specs.Machine.{record_of, lent}
+use Rattle.trm_run_machine.specs.Machine.{lent}
 use Rattle.trm_run_machine.specs.declared.clock_answer.Clock.{Clock}
 use Rattle.trm_calls.specs.declared.call_answers.Run.{Run}
 use Rattle.trm.specs.declared.exported_answers.ResetAnswer.{ResetAnswer}
@@ -32,10 +30,9 @@ pub data Starts (s : List ℕ) : Machine → Type 0 where
   shipped : (r : ResetAnswer) → ShippedReset s r → r.number ≡ 0 → Starts s r.machine
   own : (m : Machine) → ResetMet s (Ok m) → Starts s m
 
--- a refused reset: of trm_reset; or of trm_calls, which returns no record, where the calls go on with that of an empty store (D-37)
+-- a refused reset, of trm_reset: that of trm_calls returns no record
 pub data Fails (s : List ℕ) : Machine → Type 0 where
   shipped_not : (r : ResetAnswer) → ShippedReset s r → r.number ≢ 0 → Fails s r.machine
-  own_not : (e : Refusal) (m : Machine) → ResetMet s (Err e) → record_of m ≡ reset_of paper_geometry [] → Fails s m
 
 -- the number, the record that is returned or was lent, and the lent buffers after the call
 pub data Returned : Type 0 where

@@ -27,7 +27,7 @@ use Rattle.trm.specs.declared.exported_answers.LentAnswer.{LentAnswer}
 use Rattle.trm.specs.declared.exported_answers.RunAnswer.{RunAnswer}
 use Rattle.trm_agreement.specs.Calls.{Call, clock_call, run_call}
 use Rattle.trm_agreement.specs.CallContracts.{ShippedReset, ShippedValue, ShippedLent, ShippedRun, ResetMet, ClockMet, RunMet}
-use Rattle.trm_agreement.specs.Exchange.{Starts, shipped, own, Fails, shipped_not, own_not, Returned, clock_returned, run_returned}
+use Rattle.trm_agreement.specs.Exchange.{Starts, shipped, own, Fails, shipped_not, Returned, clock_returned, run_returned}
 use Rattle.trm_agreement.specs.Exchange.{Meets, by_value, by_lending, by_run, own_clock, own_clock_not, own_run, own_run_not}
 
 shipped_reset_says : (s : List ℕ) (r : ResetAnswer) → ShippedReset s r → ResetNumbered s r
@@ -92,7 +92,6 @@ failed-by s n m h z = h.machine ∙ rw (ne_eqb (reset_refusal s) 0 (λ y. z (h.n
 -- a refused reset: no store fits its record
 pub fails : (s : List ℕ) (m : Machine) → Fails s m → record_of m ≡ reset_of paper_geometry []
 fails s m (shipped_not r h n) = failed-by s r.number r.machine (shipped_facts s r h) n
-fails s m (own_not e k h g) = g
 
 pub starts : (s : List ℕ) (m : Machine) → Starts s m → Started s m
 starts s m (shipped r h z) = started-by s r.number r.machine (shipped_facts s r h) z
