@@ -50,7 +50,7 @@ def write_manifest(crate, needs, is_static=False):
 def write_crate(crate, first, is_static):
     """Writes the crate as Rust; returns its places, numbered from `first` on."""
     places, source = [], CRATES / crate / 'src'
-    for path in sorted(source.rglob('*.rt')):
+    for path in sorted({*source.rglob('*.rt')} - {source / 'tests.rt'}):  # tests.rt is built for the crate's own tests alone
         planter = Planter(str(path.relative_to(CRATES)), path.read_text(encoding='utf-8'), first + len(places), is_static)
         write((ROOM / crate / 'src' / path.relative_to(source)).with_suffix('.rs'), planter.plant())
         places += planter.places

@@ -26,7 +26,7 @@ fn run_all(
     let mut b = board_cases::start();
     let mut lent = Lent::default();
     for _ in 0..1_000_000 {
-        let Some(c) = case_input::next_case(rt, input)? else {
+        let Some(c) = case_input::next_before_zero(rt, input)? else {
             break;
         };
         script::fill(c, program, store);

@@ -29,7 +29,7 @@ fn run_all(
     let mut m = machine_cases::start();
     let mut lent = Lent::default();
     for _ in 0..1_000_000 {
-        let Some(c) = case_input::next_case(rt, input)? else {
+        let Some(c) = case_input::next_before_zero(rt, input)? else {
             break;
         };
         cases::answer(rt, c)?;
