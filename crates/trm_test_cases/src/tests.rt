@@ -21,17 +21,20 @@ impl Print for Silent {
     }
 }
 
-// Two lines that begin with the byte 0: `next_case` reads both, `next_before_zero` ends at the first.
+// A line that begins with a letter, then two that begin with the byte 0: `next_case` reads all, `next_before_zero` ends at the second.
 #[test]
 fn lines_that_begin_with_the_byte_0(rt: HostRuntime) -> Result<(), Fail> {
-    let lines = [0u8; 112];
+    let mut lines = [0u8; 168];
+    lines[0] = b'A';
     let mut input = lines.as_slice();
-    for _ in 0..2 {
+    for kind in [b'A', 0, 0] {
         let next = case_input::next_case(&Silent, &mut input)?;
-        assert_eq!(rt; next.map(|case| case.kind), Some(0));
+        assert_eq!(rt; next.map(|case| case.kind), Some(kind));
     }
     assert!(rt; case_input::next_case(&Silent, &mut input)?.is_none());
     let mut input = lines.as_slice();
+    let next = case_input::next_before_zero(&Silent, &mut input)?;
+    assert_eq!(rt; next.map(|case| case.kind), Some(b'A'));
     assert!(rt; case_input::next_before_zero(&Silent, &mut input)?.is_none());
     Ok(())
 }
